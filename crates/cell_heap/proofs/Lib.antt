@@ -1,0 +1,4 @@
+pub mod Putting
+pub mod StartKinds
+pub mod StartIsSound
+pub mod Asking

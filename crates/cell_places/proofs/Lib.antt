@@ -1,0 +1,5 @@
+pub mod Runs
+pub mod SamePlace
+pub mod Grown
+pub mod KeepsSound
+pub mod FirstChild

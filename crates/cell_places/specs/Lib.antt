@@ -1,0 +1,12 @@
+pub mod Lists
+pub mod Places
+pub mod Kinds
+pub mod Slots
+pub mod Heap
+pub mod Within
+pub mod Acts
+pub mod View
+pub mod Rooted
+pub mod Valid
+pub mod Start
+pub mod Sound

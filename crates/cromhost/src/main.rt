@@ -1,0 +1,41 @@
+//! The page host: loads one page and answers the requests of its input. `run` is the whole program
+//! over a shelf, a source and a sink; `main` hands it the real ones.
+#![tactic(auto)]
+
+mod host;
+mod reply;
+mod request;
+mod run;
+mod status;
+mod stream;
+#[cfg(test)]
+mod tests;
+mod words;
+
+use crate::run::run;
+use crate::status::Status;
+use page_units::{FileShelf, StdSink, StdSource};
+use std::env;
+use std::process::ExitCode;
+
+/// Runs the command of the program's words over the files, standard input and standard output,
+/// prints the status's line to standard error, and ends with its number.
+fn main(rt: HostRuntime) -> ExitCode {
+    let status = match env::args(&rt) {
+        Ok(args) => match args.skip(1).collect(rt.alloc()) {
+            Ok(words) => run(
+                rt.alloc(),
+                &words,
+                &mut FileShelf::new(rt),
+                &mut StdSource::new(rt.stdin()),
+                &mut StdSink::new(rt.stdout()),
+            ),
+            Err(_) => Status::NoMemory,
+        },
+        Err(_) => Status::Usage,
+    };
+    if let Some(line) = status.line() {
+        let _ = rt.eprintln(line);
+    }
+    ExitCode::from(status.number())
+}

@@ -1,0 +1,83 @@
+//! The top call.
+ghost use Rattle.std.specs.Prelude.{◌≡◌, ◌↔◌, ◌⊎◌, ℕ, ◌++◌, List, take, map, Option, Some, None};
+ghost use Rattle.std.specs.String.{string_bytes};
+ghost use Rattle.page_units.specs.Outside.{Rose};
+ghost use Rattle.cromhost.specs.Words.{page_word};
+ghost use Rattle.cromhost.specs.Stream.{Takes};
+ghost use Rattle.cromhost.specs.Headline.{Headline, Causes, IsWhole};
+ghost use Rattle.cromhost.specs.Headline as spec;
+
+use crate::host::load;
+use crate::status::Status;
+use crate::stream::{StreamEnd, serve_stream};
+use crate::words::page_name;
+use page_units::{FETCHED_BYTES, Fetched, NoMemory, Shelf, Sink, Source};
+use std::alloc::Global;
+
+/// Loads the page that the words name, and answers the request of the input.
+pub fn run<F: Shelf, S: Source, W: Sink>(
+    alloc: Global,
+    words: &Vec<String>,
+    shelf: &mut F,
+    input: &mut S,
+    output: &mut W,
+) -> Status
+    ensures usage { (result ≡ Status.Usage) ↔ (page_word (map string_bytes words.now.items) ≡ None) }
+    ensures causes { Causes result (F.faults shelf.old) (F.faults shelf.new) (S.faults input.old) (S.faults input.new) (W.faults output.old) (W.faults output.new) }
+    ensures takes { Takes (S.left input.old) (S.left input.new) }
+    ensures headline { (name page bytes old : List ℕ) → page_word (map string_bytes words.now.items) ≡ Some name
+        → F.file shelf.old name ≡ Some page → S.left input.old ≡ Some bytes → W.told output.old ≡ Some old
+        → (written : List ℕ) × (W.told output.new ≡ Some (old ++ written)) × Headline result (take FETCHED_BYTES page) bytes written (S.left input.new) }
+    // A page that is read and an input of one request or none are answered whole, where no count rises.
+    ensures complete { (name page bytes old : List ℕ) → page_word (map string_bytes words.now.items) ≡ Some name
+        → F.file shelf.old name ≡ Some page → S.left input.old ≡ Some bytes → W.told output.old ≡ Some old → IsWhole (take FETCHED_BYTES page) bytes
+        → ¬ Rose (F.faults shelf.old) (F.faults shelf.new) → ¬ Rose (S.faults input.old) (S.faults input.new) → ¬ Rose (W.faults output.old) (W.faults output.new)
+        → (result ≡ Status.Ended) ⊎ (result ≡ Status.NoMemory) }
+{
+    run_words(alloc, words, shelf, input, output)
+}
+
+/// The same, without what follows from the rest.
+fn run_words<F: Shelf, S: Source, W: Sink>(
+    alloc: Global,
+    words: &Vec<String>,
+    shelf: &mut F,
+    input: &mut S,
+    output: &mut W,
+) -> Status
+    ensures usage { (result ≡ Status.Usage) ↔ (page_word (map string_bytes words.now.items) ≡ None) }
+    ensures causes { Causes result (F.faults shelf.old) (F.faults shelf.new) (S.faults input.old) (S.faults input.new) (W.faults output.old) (W.faults output.new) }
+    ensures takes { Takes (S.left input.old) (S.left input.new) }
+    ensures headline { (name page bytes old : List ℕ) → page_word (map string_bytes words.now.items) ≡ Some name
+        → F.file shelf.old name ≡ Some page → S.left input.old ≡ Some bytes → W.told output.old ≡ Some old
+        → (written : List ℕ) × (W.told output.new ≡ Some (old ++ written)) × Headline result (take FETCHED_BYTES page) bytes written (S.left input.new) }
+{
+    let name = match page_name(words) {
+        Some(name) => name,
+        None => return Status::Usage,
+    };
+    let page = match shelf.fetch(alloc, name) {
+        Ok(Fetched::Bytes(page)) => page,
+        Ok(Fetched::Failed) => return Status::ShelfFault,
+        Err(_) => return Status::NoMemory,
+    };
+    let mut base = match load(alloc, page.as_slice()) {
+        Ok(Some(base)) => base,
+        Ok(None) => return Status::NotBuilt,
+        Err(_) => return Status::NoMemory,
+    };
+    status_of(serve_stream(alloc, &mut base, input, output))
+}
+
+/// The status of a run whose stream ended so.
+fn status_of(outcome: Result<StreamEnd, NoMemory>) -> Status
+    ensures { result ≡ spec.status_of outcome }
+{
+    match outcome {
+        Ok(StreamEnd::End) => Status::Ended,
+        Ok(StreamEnd::Misfit) => Status::NotBuilt,
+        Ok(StreamEnd::ReadFault) => Status::ReadFault,
+        Ok(StreamEnd::WriteFault) => Status::WriteFault,
+        Err(_) => Status::NoMemory,
+    }
+}

@@ -1,0 +1,223 @@
+//! Whole runs over objects in memory.
+use crate::run::run;
+use crate::status::Status;
+use page_units::{MemoryShelf, MemorySink, MemorySource, NoMemory, SureSink, SureSource};
+use std::alloc::Global;
+use std::collections::BTreeMap;
+use std::test::Fail;
+
+const DOM: &[u8] = b"GET /dom HTTP/1.1\r\n\r\n";
+
+const EMPTY_REPLY: &[u8] =
+    b"HTTP/1.1 200 OK\r\nContent-Type: text/html; charset=utf-8\r\nContent-Length: 13\r\n\r\n<html></html>";
+
+/// Which call of each object fails, from 1; 0 is none.
+#[derive(Clone, Copy)]
+struct Failing {
+    shelf: u64,
+    input: u64,
+    output: u64,
+}
+
+const SURE: Failing = Failing {
+    shelf: 0,
+    input: 0,
+    output: 0,
+};
+
+fn words_of(alloc: Global, words: &[&str]) -> Result<Vec<String>, NoMemory> {
+    let mut all = Vec::new(alloc);
+    for word in words {
+        all.push(String::from_str(alloc, word)?)?;
+    }
+    Ok(all)
+}
+
+/// A shelf with the page `p`.
+fn shelf_of(alloc: Global, page: &[u8], fails: u64) -> Result<MemoryShelf, NoMemory> {
+    let mut files = BTreeMap::new(alloc);
+    files.insert(String::from_str(alloc, "p")?, Vec::from_slice(alloc, page)?)?;
+    Ok(MemoryShelf::new(files, vec![in alloc; fails]?))
+}
+
+/// The status and the output of a run on the page `p`, whose input comes in pieces of 1, 2 and
+/// then as many bytes as fit, and whose output takes 7 bytes at a time.
+fn ran(
+    alloc: Global,
+    words: &[&str],
+    page: &[u8],
+    input: &[u8],
+    failing: Failing,
+) -> Result<(Status, Vec<u8>), NoMemory> {
+    let words = words_of(alloc, words)?;
+    let mut shelf = shelf_of(alloc, page, failing.shelf)?;
+    let mut source = MemorySource::new(
+        Vec::from_slice(alloc, input)?,
+        vec![in alloc; 1, 2]?,
+        vec![in alloc; failing.input]?,
+    );
+    let mut sink = MemorySink::new(Vec::new(alloc), 7, vec![in alloc; failing.output]?);
+    let status = run(alloc, &words, &mut shelf, &mut source, &mut sink);
+    Ok((status, Vec::from_slice(alloc, sink.bytes())?))
+}
+
+// A page of one empty element, with its request and without.
+#[test]
+fn serves_the_tree_text(rt: HostRuntime) -> Result<(), Fail> {
+    let alloc = rt.alloc();
+    let (status, output) = ran(alloc, &["stdio", "p"], b"<html></html>", DOM, SURE)?;
+    assert_eq!(rt; status, Status::Ended);
+    assert_eq!(rt; output.as_slice(), EMPTY_REPLY);
+    let (status, output) = ran(alloc, &["stdio", "p"], b"<html></html>", b"", SURE)?;
+    assert_eq!(rt; status, Status::Ended);
+    assert!(rt; output.is_empty());
+    Ok(())
+}
+
+// Names are lowered, and a tree text of another length is counted.
+#[test]
+fn lowers_names(rt: HostRuntime) -> Result<(), Fail> {
+    let alloc = rt.alloc();
+    let mut source = SureSource::new(Vec::from_slice(alloc, DOM)?);
+    let mut sink = SureSink::new(Vec::new(alloc));
+    let words = words_of(alloc, &["stdio", "p"])?;
+    let mut shelf = shelf_of(alloc, b"<a></A>", 0)?;
+    assert_eq!(rt;
+        run(alloc, &words, &mut shelf, &mut source, &mut sink),
+        Status::Ended
+    );
+    let reply =
+        b"HTTP/1.1 200 OK\r\nContent-Type: text/html; charset=utf-8\r\nContent-Length: 7\r\n\r\n<a></a>".as_slice();
+    assert_eq!(rt; sink.bytes(), reply);
+    Ok(())
+}
+
+#[test]
+fn refuses_words(rt: HostRuntime) -> Result<(), Fail> {
+    let alloc = rt.alloc();
+    for words in [
+        [].as_slice(),
+        &["stdio"],
+        &["stdio", "p", "p"],
+        &["stdio", "-x"],
+        &["p", "stdio"],
+    ] {
+        let (status, output) = ran(alloc, words, b"<html></html>", DOM, SURE)?;
+        assert_eq!(rt; status, Status::Usage, "{words:?}");
+        assert!(rt; output.is_empty());
+    }
+    Ok(())
+}
+
+// Pages and inputs that aren't of the form so far, after which nothing is written.
+#[test]
+fn is_not_built(rt: HostRuntime) -> Result<(), Fail> {
+    let alloc = rt.alloc();
+    for page in [
+        "",
+        "<html></html>\n",
+        "<html><br></html>",
+        "<br></br>",
+        "<script></script>",
+        "<a></b>",
+        "<a ></a>",
+        "<></>",
+    ] {
+        let (status, output) = ran(alloc, &["stdio", "p"], page.as_bytes(), DOM, SURE)?;
+        assert_eq!(rt; status, Status::NotBuilt, "{page}");
+        assert!(rt; output.is_empty());
+    }
+    for input in [
+        "GET /dam HTTP/1.1\r\n\r\n",
+        "GET /dom HTTP/1.1\r\n",
+        "GET /dom HTTP/1.1\r\n\r\nG",
+    ] {
+        let (status, output) = ran(
+            alloc,
+            &["stdio", "p"],
+            b"<html></html>",
+            input.as_bytes(),
+            SURE,
+        )?;
+        assert_eq!(rt; status, Status::NotBuilt, "{input}");
+        assert!(rt; output.is_empty());
+    }
+    Ok(())
+}
+
+// Each object fails once; behind a whole request a failed read leaves the reply.
+#[test]
+fn tells_faults(rt: HostRuntime) -> Result<(), Fail> {
+    let alloc = rt.alloc();
+    let page = b"<html></html>".as_slice();
+    let words = ["stdio", "p"].as_slice();
+    let (status, output) = ran(
+        alloc,
+        words,
+        page,
+        DOM,
+        Failing {
+            shelf: 1,
+            input: 0,
+            output: 0,
+        },
+    )?;
+    assert_eq!(rt; status, Status::ShelfFault);
+    assert!(rt; output.is_empty());
+    let (status, output) = ran(alloc, &["stdio", "q"], page, DOM, SURE)?;
+    assert_eq!(rt; status, Status::ShelfFault);
+    assert!(rt; output.is_empty());
+    let (status, output) = ran(
+        alloc,
+        words,
+        page,
+        DOM,
+        Failing {
+            shelf: 0,
+            input: 1,
+            output: 0,
+        },
+    )?;
+    assert_eq!(rt; status, Status::ReadFault);
+    assert!(rt; output.is_empty());
+    let (status, output) = ran(
+        alloc,
+        words,
+        page,
+        DOM,
+        Failing {
+            shelf: 0,
+            input: 4,
+            output: 0,
+        },
+    )?;
+    assert_eq!(rt; status, Status::ReadFault);
+    assert_eq!(rt; output.as_slice(), EMPTY_REPLY);
+    let (status, output) = ran(
+        alloc,
+        words,
+        page,
+        DOM,
+        Failing {
+            shelf: 0,
+            input: 0,
+            output: 1,
+        },
+    )?;
+    assert_eq!(rt; status, Status::WriteFault);
+    assert!(rt; output.is_empty());
+    let (status, output) = ran(
+        alloc,
+        words,
+        page,
+        DOM,
+        Failing {
+            shelf: 0,
+            input: 0,
+            output: 2,
+        },
+    )?;
+    assert_eq!(rt; status, Status::WriteFault);
+    assert_eq!(rt; output.as_slice(), &EMPTY_REPLY[..7]);
+    Ok(())
+}

@@ -1,0 +1,33 @@
+-- The trees that a heap holds, and the text of a node.
+use Rattle.std.specs.Prelude.{◌≡◌, ℕ, List, [], ◌∷◌, cond, false, map}
+use Rattle.page_units.specs.declared.value.CellName.{CellName}
+use Rattle.cell_places.specs.declared.place.Slot.TheVariants as s
+use Rattle.cell_places.specs.declared.kind.CellKind.TheVariants.{Element, Chars}
+use Rattle.cell_places.specs.Kinds.{is_document}
+use Rattle.cell_places.specs.Heap.{Heap, place, kind_at, names_in, text_in, children_at}
+use Rattle.dom_tree.specs.Trees.{Trees, Attribute}
+use Rattle.dom_tree.specs.Trees as t
+use Rattle.dom_tree.specs.TreeText.{trees_text}
+
+-- the attributes of an element, in order of insertion
+abbrev pub attributes_at : Heap → CellName → List Attribute
+attributes_at H n = map (λ (name : List ℕ). (name, text_in (H.at (place n (s.Attr name))))) (names_in (H.at (place n s.AttrNames)))
+
+-- the heap holds these trees as these cells, which are siblings
+pub data Holds (H : Heap) : List CellName → Trees → Type 0 where
+  none : Holds H [] t.none
+  text : (n : CellName) (cells : List CellName) (more : Trees) → kind_at H n ≡ Chars → Holds H cells more
+      → Holds H (n ∷ cells) (t.text (text_in (H.at (place n s.Chars))) more)
+  element : (n : CellName) (name : List ℕ) (cells : List CellName) (children more : Trees) → kind_at H n ≡ Element name
+      → Holds H (children_at H n) children → Holds H cells more
+      → Holds H (n ∷ cells) (t.element name (attributes_at H n) children more)
+
+-- what is served for a node: the children of the document, or the node itself
+abbrev pub served : Heap → CellName → List CellName
+served H n = cond (is_document (kind_at H n)) (children_at H n) (n ∷ [])
+
+-- the tree text of a node
+pub record IsTreeText (H : Heap) (n : CellName) (bytes : List ℕ) : Type 0 where
+  pub trees : Trees
+  pub holds : Holds H (served H n) trees
+  pub text : bytes ≡ trees_text false trees

@@ -1,0 +1,4 @@
+pub mod Lengths
+pub mod PlantingIsSound
+pub mod NamesAreOne
+pub mod PlantingSteps

@@ -1,0 +1,4 @@
+pub mod Page
+pub mod Names
+pub mod Planting
+pub mod Reading

@@ -1,0 +1,5 @@
+pub mod Coding
+pub mod Memory
+pub mod Numbers
+pub mod Outside
+pub mod Shelves

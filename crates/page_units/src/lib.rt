@@ -1,0 +1,27 @@
+//! What every crate above speaks of: texts and values, the events and answers of a page, and the
+//! outside that is read, written and fetched. Nothing here knows of heaps, pages or routes.
+#![tactic(auto)]
+
+pub mod coding;
+pub mod event;
+pub mod fault;
+pub mod operator;
+pub mod shared;
+pub mod shelf;
+pub mod sink;
+pub mod source;
+pub mod standard;
+pub mod text;
+pub mod value;
+
+pub use coding::{text_of_utf8, utf8_of};
+pub use event::{PageEvent, Response};
+pub use fault::{NoMemory, RunFault, Stopped};
+pub use operator::{BinOp, UnOp};
+pub use shared::Shared;
+pub use shelf::{FETCHED_BYTES, Fetched, MemoryShelf, Shelf};
+pub use sink::{Gave, MemorySink, Sink, SureSink, Wrote, write_all};
+pub use source::{MemorySource, Source, SureSource, Took};
+pub use standard::{FileShelf, StdSink, StdSource};
+pub use text::Text;
+pub use value::{CellName, End, Value};

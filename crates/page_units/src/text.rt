@@ -1,0 +1,116 @@
+//! Texts of 16-bit units (ECMA-262 5.1, 8.4).
+ghost use Rattle.std.specs.Prelude.{◌≡◌, ℕ, ◌<◌, List, length, IfOk, slice_get, Some, refl, nat_eq};
+ghost use Rattle.std.specs.Cmp.Lexicographic.{pointwise, slice_cmp, nat_list_eq_equiv, nat_list_cmp_total, texts_ties, texts_po};
+ghost use Rattle.std.specs.Cmp.{partial_equiv_from_equiv};
+ghost use Rattle.std.specs.Ordering.{nat_cmp};
+ghost use Rattle.page_units.specs.Coding.{IsUnits};
+
+use crate::fault::NoMemory;
+use std::cmp::Ordering;
+use std::marker::Model;
+use std::rc::RcSlice;
+
+/// A text: a list of UTF-16 units, of which a surrogate may stand alone. Clones share the units.
+#[derive(Drop)]
+pub struct Text {
+    units: RcSlice<u16>,
+}
+
+impl Model for Text {
+    ghost use Rattle.std.specs.Prelude.{ℕ, List};
+    ghost use Rattle.std.specs.Rc.{rc_slice_items};
+    ghost use Rattle.std.specs.Coded.{coded_list, coded_ℕ};
+    ghost use Rattle.page_units.specs.Coding.{IsUnits};
+
+    ghost Value = { List ℕ };
+
+    ghost coded = { coded_list coded_ℕ };
+
+    ghost view = { λ a. rc_slice_items a.units };
+
+    ghost invariant = { λ a. IsUnits (rc_slice_items a.units) };
+}
+
+impl Text {
+    /// The text of these units.
+    pub fn of_units(units: Vec<u16>) -> Result<Text, NoMemory>
+        ensures { IfOk result (λ t. t ≡ units.items) }
+    {
+        Ok(Text {
+            units: RcSlice::from_vec(units)?,
+        })
+    }
+
+    /// How many units the text has.
+    pub fn len(&self) -> usize
+        ensures { result ≡ length self.now }
+    {
+        self.units.len()
+    }
+
+    /// Whether the text has no unit.
+    pub fn is_empty(&self) -> bool
+        ensures { result ≡ nat_eq (length self.now) 0 }
+    {
+        self.units.len() == 0
+    }
+
+    /// The units, in order.
+    pub fn units(&self) -> &[u16]
+        ensures value { result.now ≡ self.now }
+        ensures fit { IsUnits self.now }
+    {
+        self.units.as_slice()
+    }
+}
+
+impl Clone for Text {
+    ghost is_clone = { λ a b. b ≡ a };
+
+    fn clone(&self) -> Result<Text, NoMemory> {
+        Ok(Text {
+            units: self.units.clone()?,
+        })
+    }
+}
+
+impl PartialEq for Text {
+    ghost eq = { pointwise nat_eq };
+
+    ghost laws = { partial_equiv_from_equiv nat_list_eq_equiv };
+
+    fn eq(&self, other: &Text) -> bool {
+        self.units() == other.units()
+    }
+}
+
+impl Eq for Text {
+    ghost laws = { nat_list_eq_equiv };
+}
+
+impl PartialOrd for Text {
+    ghost partial_cmp = { λ x y. Some (slice_cmp nat_cmp x y) };
+
+    ghost laws = { texts_po };
+
+    fn partial_cmp(&self, other: &Text) -> Option<Ordering> {
+        Some(self.cmp(other))
+    }
+}
+
+impl Ord for Text {
+    ghost cmp = { slice_cmp nat_cmp };
+
+    ghost total = { nat_list_cmp_total };
+
+    ghost matches_partial_cmp = { λ x y. refl };
+
+    ghost matches_eq = { λ x y. texts_ties x y };
+
+    fn cmp(&self, other: &Text) -> Ordering {
+        self.units().cmp(other.units())
+    }
+}
+
+#[cfg(test)]
+mod tests;

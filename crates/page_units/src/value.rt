@@ -1,0 +1,43 @@
+//! Names of cells, and the values of a script (ECMA-262 5.1, 8).
+ghost use Rattle.std.specs.Prelude.{◌≡◌};
+
+use crate::fault::NoMemory;
+use crate::text::Text;
+
+/// The name of a heap's cell: its place in the order in which cells were made, from 0.
+#[derive(Clone, Copy, Debug, PartialEq, Eq, PartialOrd, Ord)]
+pub struct CellName(pub u32);
+
+/// A value of a script. A number is a whole number from -(2^53 - 1) to 2^53 - 1; an object is the
+/// name of its cell. That numbers are whole is this project's own.
+#[derive(Drop, PartialEq, Eq)]
+pub enum Value {
+    Undefined,
+    Null,
+    Bool(bool),
+    Num(i64),
+    Str(Text),
+    Cell(CellName),
+}
+
+impl Clone for Value {
+    ghost is_clone = { λ a b. b ≡ a };
+
+    fn clone(&self) -> Result<Value, NoMemory> {
+        match self {
+            Value::Undefined => Ok(Value::Undefined),
+            Value::Null => Ok(Value::Null),
+            Value::Bool(truth) => Ok(Value::Bool(*truth)),
+            Value::Num(number) => Ok(Value::Num(*number)),
+            Value::Str(text) => Ok(Value::Str(text.clone()?)),
+            Value::Cell(name) => Ok(Value::Cell(*name)),
+        }
+    }
+}
+
+/// How an evaluation ended: with a value, or with a throw of one.
+#[derive(Drop, PartialEq, Eq)]
+pub enum End {
+    Value(Value),
+    Throw(Value),
+}
