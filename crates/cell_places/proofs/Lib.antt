@@ -2,4 +2,5 @@ pub mod Runs
 pub mod SamePlace
 pub mod Grown
 pub mod KeepsSound
-pub mod FirstChild
+pub mod NextChild
+pub mod Spared

@@ -5,13 +5,12 @@ use Rattle.cell_places.specs.View.{ground, heap}
 use Rattle.cell_places.specs.Start.{start, document_cell}
 use Rattle.cell_places.specs.Sound.{IsSound}
 use Rattle.cell_places.proofs.Runs.{ground-run}
-use Rattle.dom_tree.specs.Trees.{Trees, element, none}
 use Rattle.dom_tree.specs.TreeText.{trees_text}
-use Rattle.dom_tree.specs.Holds.{Holds, served, IsTreeText}
+use Rattle.dom_tree.specs.Holds.{IsTreeText}
 use Rattle.page_reader.specs.Planting.{planting, planted}
 use Rattle.page_reader.specs.Reading.{ReadsPage}
-use Rattle.cromhost.specs.declared.request.Asked.{Asked}
-use Rattle.cromhost.specs.declared.request.Asked.TheVariants.{Dom}
+use Rattle.cromhost.specs.declared.wire.Asked.{Asked}
+use Rattle.cromhost.specs.declared.wire.Asked.TheVariants.{Dom}
 use Rattle.cromhost.specs.Plain as p
 use Rattle.cromhost.specs.Plain.{Loads, PlainStep, page_weight, start_moment}
 use Rattle.cromhost.specs.Ready.{IsReady}
@@ -27,21 +26,22 @@ loaded H0 H1 page r e = record {
 -- and its document can be served
 pub ready : (H0 H1 : Heap) (page : List ℕ) → ReadsPage (ground H0) (ground H1) page → IsSound 0 H1 → IsReady H1
 ready H0 H1 page r sound = record {
-  name = r.page.name;
+  trees = r.trees;
   sound = sound;
-  holds = subst (Holds H1 (served H1 document_cell)) r.page.tree r.holds;
+  holds = r.holds;
+  plain = r.plain;
   short =
       let a : length (trees_text false r.trees) ≤ length page = r.short in
       let b : length page ≤ 1048576 = r.page.few in
-      subst (λ (t : Trees). length (trees_text false t) ≤ 1048576) r.page.tree (omega (arith, a, b));
+      omega (arith, a, b);
 }
 
 -- the tree text of a heap that is ready isn't too long
 pub not_longer : (H : Heap) (ready : IsReady H) (bytes : List ℕ) → IsTreeText H document_cell bytes → 1048576 < length bytes
     → ((one other : List ℕ) → IsTreeText H document_cell one → IsTreeText H document_cell other → one ≡ other) → ⊥
 not_longer H ready bytes is long one =
-    let text : List ℕ = trees_text false (element ready.name [] none none) in
-    let also : IsTreeText H document_cell text = record { trees = element ready.name [] none none; holds = ready.holds; text = refl } in
+    let text : List ℕ = trees_text false ready.trees in
+    let also : IsTreeText H document_cell text = record { trees = ready.trees; holds = ready.holds; text = refl } in
     let same : length bytes ≡ length text = ap length (one bytes text is also) in
     let short : length text ≤ 1048576 = ready.short in
     omega (arith, long, same, short)

@@ -1,6 +1,5 @@
-pub mod Answering
 pub mod Complete
 pub mod Hosting
-pub mod Inputs
+pub mod Reading
 pub mod Serving
 pub mod Streams

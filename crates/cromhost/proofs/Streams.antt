@@ -1,167 +1,145 @@
--- How a stream ended, by what was read and written.
-use Rattle.std.proofs.Common.{◌≡◌, ◌≢◌, ◌≤◌, ◌+◌, ℕ, List, [], ◌∷◌, ◌++◌, length, take, Option, Some, Result, Ok, Err, refl, ap, sym, ◌∙◌, subst, arith, inl, inr, length-append}
+-- Runs and streams go on by one request, and end.
+use Rattle.std.proofs.Common.{◌≡◌, ℕ, ◌+◌, List, [], ◌∷◌, ◌++◌, length, take, Option, Some, None, Result, Ok, Err, refl, suc, ap, sym, ◌∙◌, append_assoc, arith}
 use Rattle.std.specs.List.{flat_map}
-use Rattle.std.proofs.lemmas.List.{append-nil}
+use Rattle.std.proofs.lemmas.List.{append-nil, length_push, take_all, flat_map_more}
 use Rattle.std.specs.declared.alloc.AllocError.{AllocError}
 use Rattle.page_units.specs.Outside.{before, after}
 use Rattle.cell_places.specs.Heap.{Heap}
-use Rattle.cromhost.specs.declared.request.Asked.TheVariants.{Dom}
+use Rattle.cromhost.specs.declared.wire.Asked.{Asked}
 use Rattle.cromhost.specs.declared.stream.StreamEnd.{StreamEnd}
-use Rattle.cromhost.specs.declared.stream.StreamEnd.TheVariants.{End, Misfit, ReadFault, WriteFault}
-use Rattle.cromhost.specs.declared.request.Stop.{Stop}
-use Rattle.cromhost.specs.declared.request.Stop.TheVariants as stop
+use Rattle.cromhost.specs.declared.stream.StreamEnd.TheVariants.{End, Misfit, RequestBound, ReadFault, WriteFault}
 use Rattle.cromhost.specs.Requests as r
-use Rattle.cromhost.specs.Requests.{dom_request, IsNoInput, IsPartial}
+use Rattle.cromhost.specs.Requests.{Requests, IsRequest}
 use Rattle.cromhost.specs.Plain as p
-use Rattle.cromhost.specs.Plain.{PlainStep}
+use Rattle.cromhost.specs.Plain.{Answers, PlainStep, PlainRun}
 use Rattle.cromhost.specs.Replies.{reply_bytes}
-use Rattle.cromhost.specs.Stream.{Streamed, EndsAs, Writes, Stands, StopSays, Answered, end_without}
-use Rattle.cromhost.proofs.Inputs.{no_input, partial, before_some}
+use Rattle.cromhost.specs.Stream.{Progress, Streamed, EndsAs, Writes, IsFront, Stands}
+use Rattle.cromhost.proofs.Reading.{before_some, before_before}
 
--- nothing is written for no request
-nothing : (result : Result StreamEnd AllocError) → Writes result [] []
-nothing (Ok End) = refl
-nothing (Ok Misfit) = refl
-nothing (Ok ReadFault) = refl
-nothing (Ok WriteFault) = (0, refl)
-nothing (Err e) = (0, refl)
+-- a run goes on by one step
+pub run_push : (H M E : Heap) (asked : List Asked) (gets posts : Answers) (replies : List (List ℕ)) (a : Asked) (g q : Answers) (reply : List ℕ)
+    → PlainRun H asked gets posts replies M → PlainStep M a g q reply E → PlainRun H (asked ++ a ∷ []) (gets ++ g) (posts ++ q) (replies ++ reply ∷ []) E
+run_push H M E _ _ _ _ a g q reply (p.none _) step = p.more H E E a [] g q g q [] [] reply [] (sym (append-nil g)) (sym (append-nil q)) step (p.none E)
+run_push H M E _ _ _ _ a g q reply (p.more _ mid _ b others gets posts g1 q1 gs qs reply1 replies eg eq first rest) step =
+    p.more H mid E b (others ++ a ∷ []) (gets ++ g) (posts ++ q) g1 q1 (gs ++ g) (qs ++ q) reply1 (replies ++ reply ∷ [])
+    (ap (λ (z : Answers). z ++ g) eg ∙ append_assoc g1 gs g) (ap (λ (z : Answers). z ++ q) eq ∙ append_assoc q1 qs q) first
+    (run_push mid M E others gs qs replies a g q reply rest step)
 
--- the stream ended before a request
-pub unanswered : (result : Result StreamEnd AllocError) (H H' : Heap) (bytes : List ℕ) (left : Option (List ℕ)) → EndsAs result [] bytes left → Stands result H' H → Streamed result H H' bytes [] left
-unanswered result H H' bytes left ends stands = record {
+-- the requests go on by one
+pub requests_push : (all bytes : List ℕ) (asked : List Asked) (a : Asked) → Requests all asked → IsRequest bytes a → Requests (all ++ bytes) (asked ++ a ∷ [])
+requests_push all bytes _ a (r.none _ e) one = r.more (all ++ bytes) bytes [] a [] (ap (λ (z : List ℕ). z ++ bytes) e ∙ sym (append-nil bytes)) one (r.none [] refl)
+requests_push all bytes _ a (r.more _ first rest b others e one' after) one =
+    r.more (all ++ bytes) first (rest ++ bytes) b (others ++ a ∷ []) (ap (λ (z : List ℕ). z ++ bytes) e ∙ append_assoc first rest bytes) one' (requests_push rest bytes others a after one)
+
+after_after : (told : Option (List ℕ)) (xs ys : List ℕ) → after (after told xs) ys ≡ after told (xs ++ ys)
+after_after None xs ys = refl
+after_after (Some front) xs ys = ap Some (append_assoc front xs ys)
+
+after_nil : (told : Option (List ℕ)) → told ≡ after told []
+after_nil None = refl
+after_nil (Some front) = ap Some (sym (append-nil front))
+
+before_nil : (left : Option (List ℕ)) → left ≡ before [] left
+before_nil None = refl
+before_nil (Some rest) = refl
+
+-- nothing was asked yet
+pub started : (H : Heap) (served : ℕ) (left told : Option (List ℕ)) (held : List ℕ) → held ≡ [] → Progress H H served served left (before held left) told told
+started H served left told held e = record {
   asked = [];
   replies = [];
   read = [];
-  rest = bytes;
-  splits = refl;
   whole = r.none [] refl;
-  few = omega arith;
-  last = H;
   run = p.none H;
-  stands = stands;
-  ends = ends;
-  writes = nothing result;
+  count = omega arith;
+  came = before_nil left ∙ ap (λ (z : List ℕ). before z left) (sym e) ∙ before_nil (before held left);
+  went = after_nil told;
 }
 
--- and nothing was told
-pub quiet : (told : Option (List ℕ)) (old : List ℕ) → told ≡ Some old → told ≡ Some (old ++ [])
-quiet told old e = e ∙ ap Some (sym (append-nil old))
+flat_push : (replies : List (List ℕ)) (reply : List ℕ) → flat_map reply_bytes replies ++ reply_bytes reply ≡ flat_map reply_bytes (replies ++ reply ∷ [])
+flat_push replies reply = flat_map_more reply_bytes [] replies reply
 
--- ---- without a request
-
-empty_rest : (held : List ℕ) (left' : Option (List ℕ)) (bytes : List ℕ) → Some bytes ≡ before held left' → ((rest : List ℕ) → left' ≡ Some rest → rest ≡ []) → bytes ≡ held
-empty_rest held left' bytes e over =
-    let q = before_some held left' bytes e in
-    q.2 ∙ ap (λ (t : List ℕ). held ++ t) (over q.0 q.1) ∙ append-nil held
-
-full_rest : (held : List ℕ) (left' : Option (List ℕ)) (bytes : List ℕ) → Some bytes ≡ before held left' → length held ≡ 22 → 22 ≤ length bytes
-full_rest held left' bytes e full =
-    let q = before_some held left' bytes e in
-    let l : length bytes ≡ length held + length q.0 = ap length q.2 ∙ length-append held q.0 in
-    omega (arith, l, full)
-
-long_input : (bytes : List ℕ) → 22 ≤ length bytes → IsNoInput bytes
-long_input bytes long = no_input bytes
-    (λ e. let l : length bytes ≡ 0 = ap length e in omega (arith, l, long))
-    (λ e. let l : length bytes ≡ 21 = ap length e in omega (arith, l, long))
-
-ends_without : (why : Stop) (held : List ℕ) (left left' : Option (List ℕ)) (bytes : List ℕ) → StopSays (Ok why) held left left' → held ≢ dom_request → left ≡ Some bytes → EndsAs (Ok (end_without why held)) [] bytes left'
-ends_without stop.End [] left left' bytes says other e = empty_rest [] left' bytes (sym e ∙ says.0) says.2
-ends_without stop.End (b ∷ bs) left left' bytes says other e =
-    let same : bytes ≡ b ∷ bs = empty_rest (b ∷ bs) left' bytes (sym e ∙ says.0) says.2 in
-    (refl, no_input bytes (λ z. let l : length (b ∷ bs) ≡ 0 = ap length (sym same ∙ z) in omega (arith, l)) (λ z. other (sym same ∙ z)))
-ends_without stop.Failed held left left' bytes says other e = (held, partial held says.1 other, sym e ∙ says.0)
-ends_without stop.Full held left left' bytes says other e = (refl, long_input bytes (full_rest held left' bytes (sym e ∙ says.0) says.1))
-
-stands_without : (why : Stop) (held : List ℕ) (H : Heap) → Stands (Ok (end_without why held)) H H
-stands_without stop.End [] H = refl
-stands_without stop.End (b ∷ bs) H = refl
-stands_without stop.Failed held H = refl
-stands_without stop.Full held H = refl
-
--- no whole request was read
-pub without : (why : Stop) (held : List ℕ) (left left' told : Option (List ℕ)) (H : Heap) (bytes old : List ℕ) → StopSays (Ok why) held left left' → held ≢ dom_request → left ≡ Some bytes → told ≡ Some old
-    → (x : List ℕ) × (told ≡ Some (old ++ x)) × Streamed (Ok (end_without why held)) H H bytes x left'
-without why held left left' told H bytes old says other e f =
-    ([], quiet told old f, unanswered (Ok (end_without why held)) H H bytes left' (ends_without why held left left' bytes says other e) (stands_without why held H))
-
--- ---- behind the request
-
-one_reply : (body : List ℕ) → reply_bytes body ≡ flat_map reply_bytes (body ∷ [])
-one_reply body = sym (append-nil (reply_bytes body))
-
--- the request was answered, whole or in part
-with_reply : (result : Result StreamEnd AllocError) (H H' : Heap) (left' : Option (List ℕ)) (bytes rest body written : List ℕ)
-    → bytes ≡ dom_request ++ rest → PlainStep H Dom [] [] body H' → Stands result H' H' → EndsAs result (Dom ∷ []) rest left' → Writes result written (flat_map reply_bytes (body ∷ []))
-    → Streamed result H H' bytes written left'
-with_reply result H H' left' bytes rest body written splits step stands ends writes = record {
-  asked = Dom ∷ [];
-  replies = body ∷ [];
-  read = dom_request;
-  rest = rest;
-  splits = splits;
-  whole = r.more dom_request dom_request [] Dom [] (sym (append-nil dom_request)) (r.dom dom_request refl) (r.none [] refl);
-  few = omega arith;
-  last = H';
-  run = p.more H H' H' Dom [] [] [] [] [] [] [] body [] refl refl step (p.none H');
-  stands = stands;
-  ends = ends;
-  writes = writes;
+-- one more request is answered whole
+pub went_on : (H M E : Heap) (served n n' : ℕ) (left ahead ahead' told t t' : Option (List ℕ)) (bytes : List ℕ) (a : Asked) (reply : List ℕ)
+    → Progress H M served n left ahead told t → IsRequest bytes a → ahead ≡ before bytes ahead' → PlainStep M a [] [] reply E → t' ≡ after t (reply_bytes reply) → n' ≡ n + 1
+    → Progress H E served n' left ahead' told t'
+went_on H M E served n n' left ahead ahead' told t t' bytes a reply q one came step went up = record {
+  asked = q.asked ++ a ∷ [];
+  replies = q.replies ++ reply ∷ [];
+  read = q.read ++ bytes;
+  whole = requests_push q.read bytes q.asked a q.whole one;
+  run = run_push H M E q.asked [] [] q.replies a [] [] reply q.run step;
+  count = let l : length (q.asked ++ a ∷ []) ≡ length q.asked + 1 = length_push q.asked a in let c : n ≡ served + length q.asked = q.count in omega (arith, l, c, up);
+  came = q.came ∙ ap (before q.read) came ∙ before_before ahead' q.read bytes;
+  went = went ∙ ap (λ (z : Option (List ℕ)). after z (reply_bytes reply)) q.went ∙ after_after told (flat_map reply_bytes q.replies) (reply_bytes reply) ∙ ap (after told) (flat_push q.replies reply);
 }
 
-replied : (told told' : Option (List ℕ)) (old text : List ℕ) → told' ≡ after told text → told ≡ Some old → told' ≡ Some (old ++ text)
-replied told told' old text went e = went ∙ ap (λ (t : Option (List ℕ)). after t text) e
+whole_writes : (result : Result StreamEnd AllocError) (all : List ℕ) → Writes result all all
+whole_writes (Ok End) all = refl
+whole_writes (Ok Misfit) all = refl
+whole_writes (Ok RequestBound) all = refl
+whole_writes (Ok ReadFault) all = refl
+whole_writes (Ok WriteFault) all = (length all, sym (take_all (length all) all (omega arith)))
+whole_writes (Err e) all = (length all, sym (take_all (length all) all (omega arith)))
 
--- what is held goes on as told
-says_came : (why : Stop) (held : List ℕ) (left left' : Option (List ℕ)) → StopSays (Ok why) held left left' → left ≡ before held left'
-says_came stop.End held left left' says = says.0
-says_came stop.Failed held left left' says = says.0
-says_came stop.Full held left left' says = says.0
-
-over_of : (why : Stop) (held : List ℕ) (left left' : Option (List ℕ)) → StopSays (Ok why) held left left' → why ≡ stop.End → (rest : List ℕ) → left' ≡ Some rest → rest ≡ []
-over_of why held left left' says e = (subst (λ (w : Stop). StopSays (Ok w) held left left') e says).2
-
-partial_none : IsPartial []
-partial_none = partial [] (omega arith) (λ e. let l : 0 ≡ 21 = ap length e in omega (arith, l))
-
-pub behind : (result : Result StreamEnd AllocError) (why : Stop) (held : List ℕ) (left left' told told' : Option (List ℕ)) (H H' : Heap) (bytes old : List ℕ)
-    → StopSays (Ok why) held left left' → held ≡ dom_request → Answered result why H H' told told' → left ≡ Some bytes → told ≡ Some old
-    → (x : List ℕ) × (told' ≡ Some (old ++ x)) × Streamed result H H' bytes x left'
-behind (Ok End) why held left left' told told' H H' bytes old says same done e f =
-    let q = before_some held left' bytes (sym e ∙ says_came why held left left' says) in
-    let splits : bytes ≡ dom_request ++ q.0 = q.2 ∙ ap (λ (t : List ℕ). t ++ q.0) same in (
-      reply_bytes done.1.body,
-      replied told told' old _ done.1.went f,
-      with_reply (Ok End) H H' left' bytes q.0 done.1.body (reply_bytes done.1.body) splits done.1.step refl (over_of why held left left' says done.0 q.0 q.1) (one_reply done.1.body),
-    )
-behind (Ok Misfit) why held left left' told told' H H' bytes old says same done e f = absurd done
-behind (Ok ReadFault) why held left left' told told' H H' bytes old says same done e f =
-    let q = before_some held left' bytes (sym e ∙ says_came why held left left' says) in
-    let splits : bytes ≡ dom_request ++ q.0 = q.2 ∙ ap (λ (t : List ℕ). t ++ q.0) same in (
-      reply_bytes done.1.body,
-      replied told told' old _ done.1.went f,
-      with_reply (Ok ReadFault) H H' left' bytes q.0 done.1.body (reply_bytes done.1.body) splits done.1.step refl ([], partial_none, ap (before []) (sym q.1)) (one_reply done.1.body),
-    )
-behind (Ok WriteFault) why held left left' told told' H H' bytes old says same done e f =
-    let q = before_some held left' bytes (sym e ∙ says_came why held left left' says) in
-    let splits : bytes ≡ dom_request ++ q.0 = q.2 ∙ ap (λ (t : List ℕ). t ++ q.0) same in (
-      take done.count (reply_bytes done.body),
-      replied told told' old _ done.went f,
-      with_reply (Ok WriteFault) H H' left' bytes q.0 done.body _ splits done.step refl tt (done.count, ap (take done.count) (one_reply done.body)),
-    )
-behind (Err x) why held left left' told told' H H' bytes old says same (inl still) e f =
-    ([], quiet told' old (still ∙ f), unanswered (Err x) H H' bytes left' tt tt)
-behind (Err x) why held left left' told told' H H' bytes old says same (inr done) e f =
-    let q = before_some held left' bytes (sym e ∙ says_came why held left left' says) in
-    let splits : bytes ≡ dom_request ++ q.0 = q.2 ∙ ap (λ (t : List ℕ). t ++ q.0) same in (
-      take done.count (reply_bytes done.body),
-      replied told told' old _ done.went f,
-      with_reply (Err x) H H' left' bytes q.0 done.body _ splits done.step tt tt (done.count, ap (take done.count) (one_reply done.body)),
+-- the stream ends between two requests
+pub ended : (result : Result StreamEnd AllocError) (H M H' : Heap) (most served n : ℕ) (left ahead told t left' : Option (List ℕ)) (bytes old : List ℕ)
+    → Progress H M served n left ahead told t → ((rest : List ℕ) → ahead ≡ Some rest → EndsAs result most n rest left') → Stands result H' M
+    → left ≡ Some bytes → told ≡ Some old
+    → (written : List ℕ) × (t ≡ Some (old ++ written)) × Streamed result H H' most served n bytes written left'
+ended result H M H' most served n left ahead told t left' bytes old q ends stands e f =
+    let rest = before_some q.read ahead bytes (sym e ∙ q.came) in
+    let all : List ℕ = flat_map reply_bytes q.replies in (
+      all,
+      q.went ∙ ap (λ (z : Option (List ℕ)). after z all) f,
+      record {
+        asked = q.asked;
+        replies = q.replies;
+        read = q.read;
+        rest = rest.0;
+        splits = rest.2;
+        whole = q.whole;
+        last = M;
+        run = q.run;
+        stands = stands;
+        count = q.count;
+        ends = ends rest.0 rest.1;
+        writes = whole_writes result all;
+      },
     )
 
--- the reading found no memory
-pub unread : (result : Result StreamEnd AllocError) (e : AllocError) → result ≡ Err e → (H : Heap) (left' told : Option (List ℕ)) (bytes old : List ℕ) → told ≡ Some old
-    → (x : List ℕ) × (told ≡ Some (old ++ x)) × Streamed result H H bytes x left'
-unread result e is H left' told bytes old f =
-    let P : Result StreamEnd AllocError → Type 0 = λ z. Streamed z H H bytes [] left' in
-    ([], quiet told old f, subst P (sym is) (unanswered (Err e) H H bytes left' tt tt))
+front_push : (all others : List ℕ) (k : ℕ) → all ++ take k others ≡ take (length all + k) (all ++ others)
+front_push [] others k = ap (λ (i : ℕ). take i others) (let e : k ≡ 0 + k = omega arith in e)
+front_push (x ∷ all) others k = ap (λ (z : List ℕ). x ∷ z) (front_push all others k) ∙ ap (λ (i : ℕ). take i (x ∷ (all ++ others))) (let e : suc (length all + k) ≡ suc (length all) + k = omega arith in e)
+
+-- the stream ends inside a reply
+pub cut_off : (result : Result StreamEnd AllocError) (H M E : Heap) (most served n n' : ℕ) (left ahead ahead' told t t' left' : Option (List ℕ)) (b bytes old : List ℕ) (a : Asked) (reply : List ℕ) (k : ℕ)
+    → Progress H M served n left ahead told t → IsRequest b a → ahead ≡ before b ahead' → PlainStep M a [] [] reply E → n' ≡ n + 1
+    → t' ≡ after t (take k (reply_bytes reply))
+    → ((rest : List ℕ) → EndsAs result most n' rest left') → Stands result E E → ((written all : List ℕ) → IsFront written all → Writes result written all)
+    → left ≡ Some bytes → told ≡ Some old
+    → (written : List ℕ) × (t' ≡ Some (old ++ written)) × Streamed result H E most served n' bytes written left'
+unfolding went_on
+cut_off result H M E most served n n' left ahead ahead' told t t' left' b bytes old a reply k q one came step up went ends stands fronts l o =
+    let q' : Progress H E served n' left ahead' told (after t (reply_bytes reply)) = went_on H M E served n n' left ahead ahead' told t (after t (reply_bytes reply)) b a reply q one came step refl up in
+    let rest = before_some q'.read ahead' bytes (sym l ∙ q'.came) in
+    let all : List ℕ = flat_map reply_bytes q.replies in
+    let written : List ℕ = all ++ take k (reply_bytes reply) in
+    let all' : List ℕ = flat_map reply_bytes q'.replies in (
+      written,
+      went ∙ ap (λ (z : Option (List ℕ)). after z (take k (reply_bytes reply))) q.went ∙ after_after told all (take k (reply_bytes reply)) ∙ ap (λ (z : Option (List ℕ)). after z written) o,
+      record {
+        asked = q'.asked;
+        replies = q'.replies;
+        read = q'.read;
+        rest = rest.0;
+        splits = rest.2;
+        whole = q'.whole;
+        last = E;
+        run = q'.run;
+        stands = stands;
+        count = q'.count;
+        ends = ends rest.0;
+        writes = fronts written all' (length all + k, front_push all (reply_bytes reply) k ∙ ap (take (length all + k)) (flat_push q.replies reply));
+      },
+    )

@@ -1,22 +1,27 @@
 -- What `run` says.
-use Rattle.std.specs.Prelude.{◌≡◌, ◌⊎◌, ℕ, List, [], Option, Result, Ok, Err}
+use Rattle.std.specs.Prelude.{◌≡◌, ◌⊎◌, ◌≤◌, ℕ, List, [], length, Option, Result, Ok, Err}
 use Rattle.std.specs.declared.alloc.AllocError.{AllocError}
 use Rattle.page_units.specs.Outside.{Rose}
 use Rattle.cell_places.specs.Heap.{Heap}
 use Rattle.page_reader.specs.Page.{IsNoPage}
-use Rattle.cromhost.specs.declared.request.Asked.{Asked}
+use Rattle.cromhost.specs.declared.wire.Asked.{Asked}
 use Rattle.cromhost.specs.declared.status.Status.{Status}
-use Rattle.cromhost.specs.declared.status.Status.TheVariants.{Ended, Usage, NotBuilt, ReadFault, WriteFault, NoMemory, ShelfFault}
+use Rattle.cromhost.specs.declared.status.Status.TheVariants.{Ended, Usage, NotBuilt, ReadFault, WriteFault, NoMemory, ShelfFault, RequestBound}
 use Rattle.cromhost.specs.declared.stream.StreamEnd.{StreamEnd}
 use Rattle.cromhost.specs.declared.stream.StreamEnd.TheVariants as end
-use Rattle.cromhost.specs.Requests.{IsInput}
+use Rattle.cromhost.specs.Requests.{Requests}
 use Rattle.cromhost.specs.Plain.{Loads}
-use Rattle.cromhost.specs.Stream.{Streamed, RoseOrNot}
+use Rattle.cromhost.specs.Stream.{Streamed}
+
+-- how many requests are answered in a run, at the most
+abbrev pub served_requests : ℕ
+served_requests = 100000
 
 -- the status of a run whose stream ended so
 abbrev pub status_of : Result StreamEnd AllocError → Status
 status_of (Ok end.End) = Ended
 status_of (Ok end.Misfit) = NotBuilt
+status_of (Ok end.RequestBound) = RequestBound
 status_of (Ok end.ReadFault) = ReadFault
 status_of (Ok end.WriteFault) = WriteFault
 status_of (Err e) = NoMemory
@@ -25,8 +30,9 @@ status_of (Err e) = NoMemory
 pub record Served (result : Result StreamEnd AllocError) (page bytes written : List ℕ) (left : Option (List ℕ)) : Type 0 where
   pub start : Heap
   pub last : Heap
+  pub count : ℕ
   pub loads : Loads page start
-  pub stream : Streamed result start last bytes written left
+  pub stream : Streamed result start last served_requests 0 count bytes written left
 
 -- What was written for the page and the bytes of the input, by the status; `left` is what is left of the input.
 abbrev pub Headline : Status → (page bytes written : List ℕ) → (left : Option (List ℕ)) → Type 0
@@ -35,6 +41,7 @@ Headline ShelfFault page bytes written left = written ≡ []
 Headline NotBuilt page bytes written left = (IsNoPage page × (written ≡ [])) ⊎ Served (Ok end.Misfit) page bytes written left
 Headline NoMemory page bytes written left = (written ≡ []) ⊎ ((e : AllocError) × Served (Err e) page bytes written left)
 Headline Ended page bytes written left = Served (Ok end.End) page bytes written left
+Headline RequestBound page bytes written left = Served (Ok end.RequestBound) page bytes written left
 Headline ReadFault page bytes written left = Served (Ok end.ReadFault) page bytes written left
 Headline WriteFault page bytes written left = Served (Ok end.WriteFault) page bytes written left
 
@@ -47,14 +54,16 @@ abbrev pub Causes : Status → (shelf shelf' input input' output output' : ℕ) 
 Causes Ended shelf shelf' input input' output output' = Calm shelf shelf' input input' output output'
 Causes Usage shelf shelf' input input' output output' = Calm shelf shelf' input input' output output'
 Causes NotBuilt shelf shelf' input input' output output' = Calm shelf shelf' input input' output output'
+Causes RequestBound shelf shelf' input input' output output' = Calm shelf shelf' input input' output output'
+Causes NoMemory shelf shelf' input input' output output' = Calm shelf shelf' input input' output output'
 Causes ShelfFault shelf shelf' input input' output output' = Rose shelf shelf' × (input' ≡ input) × (output' ≡ output)
 Causes ReadFault shelf shelf' input input' output output' = (shelf' ≡ shelf) × Rose input input' × (output' ≡ output)
-Causes WriteFault shelf shelf' input input' output output' = (shelf' ≡ shelf) × RoseOrNot input input' × Rose output output'
-Causes NoMemory shelf shelf' input input' output output' = (shelf' ≡ shelf) × RoseOrNot input input' × (output' ≡ output)
+Causes WriteFault shelf shelf' input input' output output' = (shelf' ≡ shelf) × (input' ≡ input) × Rose output output'
 
--- a page that is read, and an input that is answered
+-- a page that is read, and an input of whole requests within the bound
 pub record IsWhole (page bytes : List ℕ) : Type 0 where
   pub heap : Heap
   pub loads : Loads page heap
   pub asked : List Asked
-  pub input : IsInput bytes asked
+  pub requests : Requests bytes asked
+  pub few : length asked ≤ served_requests

@@ -7,8 +7,8 @@ use Rattle.dom_tree.specs.Trees.{Trees}
 use Rattle.dom_tree.specs.Holds.{IsTreeText}
 use Rattle.page_reader.specs.Page.{IsPage}
 use Rattle.page_reader.specs.Planting.{planted}
-use Rattle.cromhost.specs.declared.request.Asked.{Asked}
-use Rattle.cromhost.specs.declared.request.Asked.TheVariants.{Dom}
+use Rattle.cromhost.specs.declared.wire.Asked.{Asked}
+use Rattle.cromhost.specs.declared.wire.Asked.TheVariants.{Dom}
 
 -- the weight that a page may spend, and the clock as it starts
 abbrev pub page_weight : ℕ

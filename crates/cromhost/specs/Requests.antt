@@ -1,8 +1,7 @@
--- The requests of the bytes (RFC 9112, 2.1 and 3), as far as they are read: `GET /dom` without a field, and no more
--- than one of them.
-use Rattle.std.specs.Prelude.{◌≡◌, ◌≤◌, ℕ, List, [], ◌∷◌, ◌++◌, length, codes}
-use Rattle.cromhost.specs.declared.request.Asked.{Asked}
-use Rattle.cromhost.specs.declared.request.Asked.TheVariants.{Dom}
+-- The requests of the bytes (RFC 9112, 2.1 and 3), as far as they are read: `GET /dom` without a field.
+use Rattle.std.specs.Prelude.{◌≡◌, ◌≢◌, ℕ, List, [], ◌∷◌, ◌++◌, codes}
+use Rattle.cromhost.specs.declared.wire.Asked.{Asked}
+use Rattle.cromhost.specs.declared.wire.Asked.TheVariants.{Dom}
 
 abbrev pub dom_request : List ℕ
 dom_request = codes "GET /dom HTTP/1.1\r\n\r\n"
@@ -17,14 +16,19 @@ pub data Requests : List ℕ → List Asked → Type 0 where
   more : (all bytes rest : List ℕ) (asked : Asked) (others : List Asked) → all ≡ bytes ++ rest
       → IsRequest bytes asked → Requests rest others → Requests all (asked ∷ others)
 
--- the whole input of a run: one request, or none
-pub record IsInput (bytes : List ℕ) (asked : List Asked) : Type 0 where
-  pub requests : Requests bytes asked
-  pub few : length asked ≤ 1
-
-abbrev pub IsNoInput : List ℕ → Type 0
-IsNoInput bytes = (asked : List Asked) → IsInput bytes asked → ⊥
+-- a request stands whole at the front
+pub record BeginsRequest (bytes : List ℕ) : Type 0 where
+  pub front : List ℕ
+  pub rest : List ℕ
+  pub asked : Asked
+  pub splits : bytes ≡ front ++ rest
+  pub whole : IsRequest front asked
 
 -- no request stands whole at the front
 abbrev pub IsPartial : List ℕ → Type 0
-IsPartial held = (front rest : List ℕ) (asked : Asked) → held ≡ front ++ rest → IsRequest front asked → ⊥
+IsPartial bytes = BeginsRequest bytes → ⊥
+
+-- the bytes, to the end of the input, go on as no request does
+pub record IsMisfit (bytes : List ℕ) : Type 0 where
+  pub some : bytes ≢ []
+  pub none : IsPartial bytes

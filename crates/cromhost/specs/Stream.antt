@@ -1,91 +1,47 @@
 -- One stream, from its bytes to what was written.
-use Rattle.std.specs.Prelude.{◌≡◌, ◌⊎◌, ℕ, ◌≤◌, ◌<◌, List, [], ◌∷◌, ◌++◌, length, take, Option, Some, Result, Ok, Err}
+use Rattle.std.specs.Prelude.{◌≡◌, ℕ, ◌+◌, List, [], ◌++◌, length, take, Option, Some, Result, Ok, Err}
 use Rattle.std.specs.List.{flat_map}
 use Rattle.std.specs.declared.alloc.AllocError.{AllocError}
 use Rattle.page_units.specs.Outside.{before, after, Rose}
 use Rattle.cell_places.specs.Heap.{Heap}
-use Rattle.cromhost.specs.declared.request.Asked.{Asked}
-use Rattle.cromhost.specs.declared.request.Asked.TheVariants.{Dom}
+use Rattle.cromhost.specs.declared.wire.Asked.{Asked}
+use Rattle.cromhost.specs.declared.wire.Next.{Next}
+use Rattle.cromhost.specs.declared.wire.Next.TheVariants as next
 use Rattle.cromhost.specs.declared.stream.StreamEnd.{StreamEnd}
-use Rattle.cromhost.specs.declared.stream.StreamEnd.TheVariants.{End, Misfit, ReadFault, WriteFault}
-use Rattle.cromhost.specs.declared.request.Stop.{Stop}
-use Rattle.cromhost.specs.declared.request.Stop.TheVariants as stop
-use Rattle.cromhost.specs.Requests.{Requests, IsNoInput, IsPartial}
-use Rattle.cromhost.specs.Plain.{PlainStep, PlainRun}
+use Rattle.cromhost.specs.declared.stream.StreamEnd.TheVariants.{End, Misfit, RequestBound, ReadFault, WriteFault}
+use Rattle.cromhost.specs.Requests.{IsRequest, Requests, BeginsRequest, IsPartial, IsMisfit}
+use Rattle.cromhost.specs.Plain.{PlainRun}
 use Rattle.cromhost.specs.Replies.{reply_bytes}
 
--- how many bytes of the input are read at the most: one more than the one request has
-abbrev pub input_bytes : ℕ
-input_bytes = 22
+-- ---- the reader of requests; what is ahead are the bytes that it holds, and then what is left of the source
 
--- what was taken from what was left
-pub record Takes (left left' : Option (List ℕ)) : Type 0 where
-  pub taken : List ℕ
-  pub came : left ≡ before taken left'
-  pub few : length taken ≤ input_bytes
+-- what its answer says of what is ahead before and then, and of what it holds then
+abbrev pub NextSays : Result Next AllocError → (ahead ahead' : Option (List ℕ)) → (held' : List ℕ) → Type 0
+NextSays (Ok (next.Request asked)) ahead ahead' held' = (bytes : List ℕ) × IsRequest bytes asked × (ahead ≡ before bytes ahead')
+NextSays (Ok next.End) ahead ahead' held' = (bytes : List ℕ) → ahead ≡ Some bytes → bytes ≡ []
+NextSays (Ok next.Misfit) ahead ahead' held' = (bytes : List ℕ) → ahead ≡ Some bytes → IsMisfit bytes
+NextSays (Ok next.Failed) ahead ahead' held' = (ahead' ≡ ahead) × IsPartial held'
+NextSays (Err e) ahead ahead' held' = Unit {0}
 
--- why the reading stopped, by what is held and left
-abbrev pub StopSays : Result Stop AllocError → (held : List ℕ) → (left left' : Option (List ℕ)) → Type 0
-StopSays (Ok stop.End) held left left' = (left ≡ before held left') × (length held < input_bytes) × ((rest : List ℕ) → left' ≡ Some rest → rest ≡ [])
-StopSays (Ok stop.Failed) held left left' = (left ≡ before held left') × (length held < input_bytes)
-StopSays (Ok stop.Full) held left left' = (left ≡ before held left') × (length held ≡ input_bytes)
-StopSays (Err e) held left left' = Unit {0}
+-- a read failed only where the source's count rose
+abbrev pub NextCause : Result Next AllocError → ℕ → ℕ → Type 0
+NextCause (Ok next.Failed) old new = Rose old new
+NextCause (Ok (next.Request asked)) old new = new ≡ old
+NextCause (Ok next.End) old new = new ≡ old
+NextCause (Ok next.Misfit) old new = new ≡ old
+NextCause (Err e) old new = new ≡ old
 
-abbrev pub StopCause : Result Stop AllocError → ℕ → ℕ → Type 0
-StopCause (Ok stop.Failed) old new = Rose old new
-StopCause (Ok stop.End) old new = new ≡ old
-StopCause (Ok stop.Full) old new = new ≡ old
-StopCause (Err e) old new = new ≡ old
+-- ---- streams
 
--- `/dom` was asked, and the whole reply was written
-pub record Replied (H H' : Heap) (told told' : Option (List ℕ)) : Type 0 where
-  pub body : List ℕ
-  pub step : PlainStep H Dom [] [] body H'
-  pub went : told' ≡ after told (reply_bytes body)
-
--- `/dom` was asked, and a front of the reply was written
-pub record PartlyReplied (H H' : Heap) (told told' : Option (List ℕ)) : Type 0 where
-  pub body : List ℕ
-  pub count : ℕ
-  pub step : PlainStep H Dom [] [] body H'
-  pub went : told' ≡ after told (take count (reply_bytes body))
-
--- how a stream ends behind a request, by why the reading stopped: more input is none that is built
-abbrev pub end_behind : Stop → StreamEnd
-end_behind stop.End = End
-end_behind stop.Failed = ReadFault
-end_behind stop.Full = Misfit
-
--- how a stream ends where no whole request was read
-abbrev pub end_without : Stop → (held : List ℕ) → StreamEnd
-end_without stop.End [] = End
-end_without stop.End (b ∷ bs) = Misfit
-end_without stop.Failed held = ReadFault
-end_without stop.Full held = Misfit
-
--- what answering the request did, by how the stream ends then and by why the reading had stopped
-abbrev pub Answered : Result StreamEnd AllocError → Stop → (H H' : Heap) → (told told' : Option (List ℕ)) → Type 0
-Answered (Ok End) why H H' told told' = (why ≡ stop.End) × Replied H H' told told'
-Answered (Ok Misfit) why H H' told told' = ⊥
-Answered (Ok ReadFault) why H H' told told' = (why ≡ stop.Failed) × Replied H H' told told'
-Answered (Ok WriteFault) why H H' told told' = PartlyReplied H H' told told'
-Answered (Err e) why H H' told told' = (told' ≡ told) ⊎ PartlyReplied H H' told told'
-
--- a write failed only where the sink's count rose
-abbrev pub AnswerCause : Result StreamEnd AllocError → ℕ → ℕ → Type 0
-AnswerCause (Ok WriteFault) old new = Rose old new
-AnswerCause (Ok End) old new = new ≡ old
-AnswerCause (Ok Misfit) old new = new ≡ old
-AnswerCause (Ok ReadFault) old new = new ≡ old
-AnswerCause (Err e) old new = new ≡ old
-
--- how the bytes go on behind what was answered, where the stream ended so
-abbrev pub EndsAs : Result StreamEnd AllocError → (asked : List Asked) → (rest : List ℕ) → (left : Option (List ℕ)) → Type 0
-EndsAs (Ok End) asked rest left = rest ≡ []
-EndsAs (Ok Misfit) asked rest left = (asked ≡ []) × IsNoInput rest
-EndsAs (Ok ReadFault) asked rest left = (held : List ℕ) × IsPartial held × (Some rest ≡ before held left)
-EndsAs (Ok WriteFault) asked rest left = Unit {0}
-EndsAs (Err e) asked rest left = Unit {0}
+-- How the bytes go on behind the requests that were answered, where the stream ended so; `most` requests are answered at
+-- the most.
+abbrev pub EndsAs : Result StreamEnd AllocError → (most served : ℕ) → (rest : List ℕ) → (left : Option (List ℕ)) → Type 0
+EndsAs (Ok End) most served rest left = rest ≡ []
+EndsAs (Ok Misfit) most served rest left = IsMisfit rest
+EndsAs (Ok RequestBound) most served rest left = (served ≡ most) × BeginsRequest rest
+EndsAs (Ok ReadFault) most served rest left = (held : List ℕ) × IsPartial held × (Some rest ≡ before held left)
+EndsAs (Ok WriteFault) most served rest left = Unit {0}
+EndsAs (Err e) most served rest left = Unit {0}
 
 -- a front of the bytes
 abbrev pub IsFront : List ℕ → List ℕ → Type 0
@@ -95,6 +51,7 @@ IsFront written all = (count : ℕ) × (written ≡ take count all)
 abbrev pub Writes : Result StreamEnd AllocError → (written all : List ℕ) → Type 0
 Writes (Ok End) written all = written ≡ all
 Writes (Ok Misfit) written all = written ≡ all
+Writes (Ok RequestBound) written all = written ≡ all
 Writes (Ok ReadFault) written all = written ≡ all
 Writes (Ok WriteFault) written all = IsFront written all
 Writes (Err e) written all = IsFront written all
@@ -103,33 +60,43 @@ Writes (Err e) written all = IsFront written all
 abbrev pub Stands : Result StreamEnd AllocError → Heap → Heap → Type 0
 Stands (Ok End) H last = H ≡ last
 Stands (Ok Misfit) H last = H ≡ last
+Stands (Ok RequestBound) H last = H ≡ last
 Stands (Ok ReadFault) H last = H ≡ last
 Stands (Ok WriteFault) H last = H ≡ last
 Stands (Err e) H last = Unit {0}
 
--- a stream from its bytes to what was written, through a run of the plain host
-pub record Streamed (result : Result StreamEnd AllocError) (H H' : Heap) (bytes written : List ℕ) (left : Option (List ℕ)) : Type 0 where
+-- A stream from its bytes to what was written, through a run of the plain host. `served` counts the requests that were
+-- answered, the one whose reply couldn't be written whole included.
+pub record Streamed (result : Result StreamEnd AllocError) (H H' : Heap) (most served served' : ℕ) (bytes written : List ℕ) (left : Option (List ℕ)) : Type 0 where
   pub asked : List Asked
   pub replies : List (List ℕ)
   pub read : List ℕ
   pub rest : List ℕ
   pub splits : bytes ≡ read ++ rest
   pub whole : Requests read asked
-  pub few : length asked ≤ 1
   pub last : Heap
   pub run : PlainRun H asked [] [] replies last
   pub stands : Stands result H' last
-  pub ends : EndsAs result asked rest left
+  pub count : served' ≡ served + length asked
+  pub ends : EndsAs result most served' rest left
   pub writes : Writes result written (flat_map reply_bytes replies)
 
--- a count rose, or stayed
-abbrev pub RoseOrNot : ℕ → ℕ → Type 0
-RoseOrNot old new = (new ≡ old) ⊎ Rose old new
-
--- each fault only where its count rose, and an end without a fault only where none did
+-- Each fault comes only where its count rose, and an end without a fault only where none did.
 abbrev pub StreamCauses : Result StreamEnd AllocError → (source source' sink sink' : ℕ) → Type 0
+StreamCauses (Ok ReadFault) source source' sink sink' = Rose source source' × (sink' ≡ sink)
+StreamCauses (Ok WriteFault) source source' sink sink' = (source' ≡ source) × Rose sink sink'
 StreamCauses (Ok End) source source' sink sink' = (source' ≡ source) × (sink' ≡ sink)
 StreamCauses (Ok Misfit) source source' sink sink' = (source' ≡ source) × (sink' ≡ sink)
-StreamCauses (Ok ReadFault) source source' sink sink' = Rose source source' × (sink' ≡ sink)
-StreamCauses (Ok WriteFault) source source' sink sink' = RoseOrNot source source' × Rose sink sink'
-StreamCauses (Err e) source source' sink sink' = RoseOrNot source source' × (sink' ≡ sink)
+StreamCauses (Ok RequestBound) source source' sink sink' = (source' ≡ source) × (sink' ≡ sink)
+StreamCauses (Err e) source source' sink sink' = (source' ≡ source) × (sink' ≡ sink)
+
+-- what was done so far, between two requests
+pub record Progress (H H' : Heap) (served served' : ℕ) (left ahead told told' : Option (List ℕ)) : Type 0 where
+  pub asked : List Asked
+  pub replies : List (List ℕ)
+  pub read : List ℕ
+  pub whole : Requests read asked
+  pub run : PlainRun H asked [] [] replies H'
+  pub count : served' ≡ served + length asked
+  pub came : left ≡ before read ahead
+  pub went : told' ≡ after told (flat_map reply_bytes replies)

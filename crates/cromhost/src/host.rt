@@ -7,7 +7,7 @@ ghost use Rattle.cromhost.specs.Ready.{IsReady};
 ghost use Rattle.cromhost.specs.Replies.{reply_bytes};
 
 use crate::reply::reply;
-use crate::request::Asked;
+use crate::wire::Asked;
 use cell_heap::Base;
 use dom_tree::dom_text;
 use page_reader::read_page;

@@ -4,12 +4,12 @@
 
 mod host;
 mod reply;
-mod request;
 mod run;
 mod status;
 mod stream;
 #[cfg(test)]
 mod tests;
+mod wire;
 mod words;
 
 use crate::run::run;

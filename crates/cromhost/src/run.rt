@@ -3,7 +3,6 @@ ghost use Rattle.std.specs.Prelude.{◌≡◌, ◌↔◌, ◌⊎◌, ℕ, ◌++�
 ghost use Rattle.std.specs.String.{string_bytes};
 ghost use Rattle.page_units.specs.Outside.{Rose};
 ghost use Rattle.cromhost.specs.Words.{page_word};
-ghost use Rattle.cromhost.specs.Stream.{Takes};
 ghost use Rattle.cromhost.specs.Headline.{Headline, Causes, IsWhole};
 ghost use Rattle.cromhost.specs.Headline as spec;
 
@@ -14,7 +13,11 @@ use crate::words::page_name;
 use page_units::{FETCHED_BYTES, Fetched, NoMemory, Shelf, Sink, Source};
 use std::alloc::Global;
 
-/// Loads the page that the words name, and answers the request of the input.
+/// How many requests are answered in a run, at the most.
+const SERVED_REQUESTS: u64 = 100_000;
+
+/// Loads the page that the words name, and answers the requests of the input, each before the
+/// input is asked again.
 pub fn run<F: Shelf, S: Source, W: Sink>(
     alloc: Global,
     words: &Vec<String>,
@@ -24,11 +27,10 @@ pub fn run<F: Shelf, S: Source, W: Sink>(
 ) -> Status
     ensures usage { (result ≡ Status.Usage) ↔ (page_word (map string_bytes words.now.items) ≡ None) }
     ensures causes { Causes result (F.faults shelf.old) (F.faults shelf.new) (S.faults input.old) (S.faults input.new) (W.faults output.old) (W.faults output.new) }
-    ensures takes { Takes (S.left input.old) (S.left input.new) }
     ensures headline { (name page bytes old : List ℕ) → page_word (map string_bytes words.now.items) ≡ Some name
         → F.file shelf.old name ≡ Some page → S.left input.old ≡ Some bytes → W.told output.old ≡ Some old
         → (written : List ℕ) × (W.told output.new ≡ Some (old ++ written)) × Headline result (take FETCHED_BYTES page) bytes written (S.left input.new) }
-    // A page that is read and an input of one request or none are answered whole, where no count rises.
+    // A page that is read and whole requests within the bound are answered whole, where no count rises.
     ensures complete { (name page bytes old : List ℕ) → page_word (map string_bytes words.now.items) ≡ Some name
         → F.file shelf.old name ≡ Some page → S.left input.old ≡ Some bytes → W.told output.old ≡ Some old → IsWhole (take FETCHED_BYTES page) bytes
         → ¬ Rose (F.faults shelf.old) (F.faults shelf.new) → ¬ Rose (S.faults input.old) (S.faults input.new) → ¬ Rose (W.faults output.old) (W.faults output.new)
@@ -47,7 +49,6 @@ fn run_words<F: Shelf, S: Source, W: Sink>(
 ) -> Status
     ensures usage { (result ≡ Status.Usage) ↔ (page_word (map string_bytes words.now.items) ≡ None) }
     ensures causes { Causes result (F.faults shelf.old) (F.faults shelf.new) (S.faults input.old) (S.faults input.new) (W.faults output.old) (W.faults output.new) }
-    ensures takes { Takes (S.left input.old) (S.left input.new) }
     ensures headline { (name page bytes old : List ℕ) → page_word (map string_bytes words.now.items) ≡ Some name
         → F.file shelf.old name ≡ Some page → S.left input.old ≡ Some bytes → W.told output.old ≡ Some old
         → (written : List ℕ) × (W.told output.new ≡ Some (old ++ written)) × Headline result (take FETCHED_BYTES page) bytes written (S.left input.new) }
@@ -66,7 +67,15 @@ fn run_words<F: Shelf, S: Source, W: Sink>(
         Ok(None) => return Status::NotBuilt,
         Err(_) => return Status::NoMemory,
     };
-    status_of(serve_stream(alloc, &mut base, input, output))
+    let mut served = 0;
+    status_of(serve_stream(
+        alloc,
+        &mut base,
+        &mut served,
+        SERVED_REQUESTS,
+        input,
+        output,
+    ))
 }
 
 /// The status of a run whose stream ended so.
@@ -76,6 +85,7 @@ fn status_of(outcome: Result<StreamEnd, NoMemory>) -> Status
     match outcome {
         Ok(StreamEnd::End) => Status::Ended,
         Ok(StreamEnd::Misfit) => Status::NotBuilt,
+        Ok(StreamEnd::RequestBound) => Status::RequestBound,
         Ok(StreamEnd::ReadFault) => Status::ReadFault,
         Ok(StreamEnd::WriteFault) => Status::WriteFault,
         Err(_) => Status::NoMemory,

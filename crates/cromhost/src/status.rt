@@ -19,6 +19,8 @@ pub enum Status {
     NoMemory,
     /// The page's file couldn't be read.
     ShelfFault,
+    /// As many requests were answered as a run answers at the most, and one more was read whole.
+    RequestBound,
     /// The page or the input isn't of the form that is built so far.
     NotBuilt,
 }
@@ -35,6 +37,7 @@ impl Status {
             Status::WriteFault => 5,
             Status::NoMemory => 6,
             Status::ShelfFault => 7,
+            Status::RequestBound => 10,
             Status::NotBuilt => 11,
         }
     }
@@ -50,6 +53,7 @@ impl Status {
             Status::WriteFault => Some("cromhost: write fault"),
             Status::NoMemory => Some("cromhost: no memory"),
             Status::ShelfFault => Some("cromhost: page not read"),
+            Status::RequestBound => Some("cromhost: request bound"),
             Status::NotBuilt => Some("cromhost: not built"),
         }
     }

@@ -1,13 +1,11 @@
-//! One stream, whose request is answered.
-ghost use Rattle.std.specs.Prelude.{◌≡◌, ℕ, ◌++◌, List, Option, Some};
+//! A stream of requests, each answered.
+ghost use Rattle.std.specs.Prelude.{◌≡◌, ◌≤◌, ℕ, ◌++◌, List, Some};
 ghost use Rattle.cell_heap.specs.Base.{heap_of};
 ghost use Rattle.cromhost.specs.Ready.{IsReady};
-ghost use Rattle.cromhost.specs.Stream.{Streamed, StreamCauses, Takes, Answered, AnswerCause};
-ghost use Rattle.cromhost.specs.Stream as spec;
-ghost use Rattle.std.specs.Prelude.{◌≢◌};
+ghost use Rattle.cromhost.specs.Stream.{Streamed, StreamCauses};
 
 use crate::host::answer;
-use crate::request::{Asked, Stop, fill, is_dom_request};
+use crate::wire::{Next, Wire};
 use cell_heap::Base;
 use page_units::{NoMemory, Sink, Source, Wrote, write_all};
 use std::alloc::Global;
@@ -15,77 +13,52 @@ use std::alloc::Global;
 /// How a stream ended.
 #[derive(Clone, Copy, Debug, PartialEq, Eq)]
 pub enum StreamEnd {
-    /// The input ended, and what it asked was answered.
+    /// The input ended after whole requests, and all were answered.
     End,
-    /// The input isn't of the form that is built so far; nothing was written.
+    /// The bytes go on as no request that is built does; those before them were answered.
     Misfit,
+    /// As many requests were answered as may be, and one more was read whole.
+    RequestBound,
     /// A read failed; what was read whole was answered.
     ReadFault,
-    /// A write failed; a front of the reply was written.
+    /// A write failed; a front of the replies was written.
     WriteFault,
 }
 
-/// Answers the request of the source, if it has one.
+/// Answers each request of the source in turn, before the source is asked again, until the source
+/// or the requests end or `most` were answered; `served` counts them.
 pub fn serve_stream<S: Source, W: Sink>(
     alloc: Global,
     base: &mut Base,
+    served: &mut u64,
+    most: u64,
     source: &mut S,
     sink: &mut W,
 ) -> Result<StreamEnd, NoMemory>
-    requires { IsReady (heap_of base.old) }
+    requires ready { IsReady (heap_of base.old) }
+    requires bound { served.old ≤ most }
     ensures causes { StreamCauses result (S.faults source.old) (S.faults source.new) (W.faults sink.old) (W.faults sink.new) }
-    ensures takes { Takes (S.left source.old) (S.left source.new) }
     ensures stream { (bytes old : List ℕ) → S.left source.old ≡ Some bytes → W.told sink.old ≡ Some old →
         (written : List ℕ) × (W.told sink.new ≡ Some (old ++ written))
-        × Streamed result (heap_of base.old) (heap_of base.new) bytes written (S.left source.new) }
+        × Streamed result (heap_of base.old) (heap_of base.new) most served.old served.new bytes written (S.left source.new) }
 {
-    let mut held = Vec::new(alloc);
-    let stop = fill(&mut held, source)?;
-    if is_dom_request(held.as_slice()) {
-        answer_whole(alloc, base, sink, stop)
-    } else {
-        Ok(end_without(stop, held.as_slice()))
-    }
-}
-
-/// Answers a request that was read whole; `stop` is why the reading stopped behind it.
-fn answer_whole<W: Sink>(
-    alloc: Global,
-    base: &mut Base,
-    sink: &mut W,
-    stop: Stop,
-) -> Result<StreamEnd, NoMemory>
-    requires ready { IsReady (heap_of base.old) }
-    requires read { stop ≢ Stop.Full }
-    ensures answered { Answered result stop (heap_of base.old) (heap_of base.new) (W.told sink.old) (W.told sink.new) }
-    ensures cause { AnswerCause result (W.faults sink.old) (W.faults sink.new) }
-{
-    let reply = answer(alloc, base, Asked::Dom)?;
-    match write_all(sink, reply.as_slice())? {
-        Wrote::All => Ok(end_behind(stop)),
-        Wrote::Failed => Ok(StreamEnd::WriteFault),
-    }
-}
-
-/// How the stream ends behind its one reply, by why the reading had stopped.
-fn end_behind(stop: Stop) -> StreamEnd
-    ensures { result ≡ spec.end_behind stop }
-{
-    match stop {
-        Stop::End => StreamEnd::End,
-        Stop::Failed => StreamEnd::ReadFault,
-        Stop::Full => StreamEnd::Misfit,
-    }
-}
-
-/// How the stream ends where no whole request was read, by why the reading stopped and by what is
-/// held then.
-fn end_without(stop: Stop, held: &[u8]) -> StreamEnd
-    ensures { result ≡ spec.end_without stop held.now }
-{
-    match stop {
-        Stop::End if held.is_empty() => StreamEnd::End,
-        Stop::Failed => StreamEnd::ReadFault,
-        Stop::End | Stop::Full => StreamEnd::Misfit,
+    let mut wire = Wire::new(alloc);
+    loop {
+        match wire.next(source)? {
+            Next::Request(asked) => {
+                if *served >= most {
+                    return Ok(StreamEnd::RequestBound);
+                }
+                let reply = answer(alloc, base, asked)?;
+                *served += 1;
+                match write_all(sink, reply.as_slice())? {
+                    Wrote::All => {}
+                    Wrote::Failed => return Ok(StreamEnd::WriteFault),
+                }
+            }
+            Next::End => return Ok(StreamEnd::End),
+            Next::Misfit => return Ok(StreamEnd::Misfit),
+            Next::Failed => return Ok(StreamEnd::ReadFault),
+        }
     }
 }

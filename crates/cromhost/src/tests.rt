@@ -109,9 +109,9 @@ fn refuses_words(rt: HostRuntime) -> Result<(), Fail> {
     Ok(())
 }
 
-// Pages and inputs that aren't of the form so far, after which nothing is written.
+// Pages that aren't of the form so far, and after which nothing is written.
 #[test]
-fn is_not_built(rt: HostRuntime) -> Result<(), Fail> {
+fn reads_no_other_page(rt: HostRuntime) -> Result<(), Fail> {
     let alloc = rt.alloc();
     for page in [
         "",
@@ -122,26 +122,118 @@ fn is_not_built(rt: HostRuntime) -> Result<(), Fail> {
         "<a></b>",
         "<a ></a>",
         "<></>",
+        "<a>&amp;</a>",
     ] {
         let (status, output) = ran(alloc, &["stdio", "p"], page.as_bytes(), DOM, SURE)?;
         assert_eq!(rt; status, Status::NotBuilt, "{page}");
         assert!(rt; output.is_empty());
     }
-    for input in [
-        "GET /dam HTTP/1.1\r\n\r\n",
-        "GET /dom HTTP/1.1\r\n",
-        "GET /dom HTTP/1.1\r\n\r\nG",
-    ] {
-        let (status, output) = ran(
-            alloc,
-            &["stdio", "p"],
-            b"<html></html>",
-            input.as_bytes(),
-            SURE,
-        )?;
-        assert_eq!(rt; status, Status::NotBuilt, "{input}");
-        assert!(rt; output.is_empty());
+    let deepest = nested(alloc, 128)?;
+    let (status, output) = ran(alloc, &["stdio", "p"], &deepest, DOM, SURE)?;
+    assert_eq!(rt; status, Status::Ended);
+    assert!(rt; output.ends_with(&deepest));
+    let deeper = nested(alloc, 129)?;
+    let (status, output) = ran(alloc, &["stdio", "p"], &deeper, DOM, SURE)?;
+    assert_eq!(rt; status, Status::NotBuilt);
+    assert!(rt; output.is_empty());
+    Ok(())
+}
+
+/// So many elements, each inside the one before.
+fn nested(alloc: Global, levels: usize) -> Result<Vec<u8>, NoMemory> {
+    let mut page = Vec::new(alloc);
+    for _ in 0..levels {
+        page.extend_from_slice(b"<i>")?;
     }
+    for _ in 0..levels {
+        page.extend_from_slice(b"</i>")?;
+    }
+    Ok(page)
+}
+
+const PAGE: &[u8] = b"<Html><p>a b</p></Html>";
+
+const REPLY: &[u8] =
+    b"HTTP/1.1 200 OK\r\nContent-Type: text/html; charset=utf-8\r\nContent-Length: 23\r\n\r\n<html><p>a b</p></html>";
+
+/// The text so many times.
+fn times(alloc: Global, text: &[u8], count: usize) -> Result<Vec<u8>, NoMemory> {
+    let mut all = Vec::new(alloc);
+    for _ in 0..count {
+        all.extend_from_slice(text)?;
+    }
+    Ok(all)
+}
+
+// Two requests, cut at every byte.
+#[test]
+fn answers_each_request_however_it_is_cut(rt: HostRuntime) -> Result<(), Fail> {
+    let alloc = rt.alloc();
+    let words = words_of(alloc, &["stdio", "p"])?;
+    let input = times(alloc, DOM, 2)?;
+    let replies = times(alloc, REPLY, 2)?;
+    for cut in 1..42 {
+        let mut shelf = shelf_of(alloc, PAGE, 0)?;
+        let mut source = MemorySource::new(input.clone()?, vec![in alloc; cut]?, Vec::new(alloc));
+        let mut sink = SureSink::new(Vec::new(alloc));
+        let status = run(alloc, &words, &mut shelf, &mut source, &mut sink);
+        assert_eq!(rt; status, Status::Ended, "{cut}");
+        assert!(rt; sink.bytes() == replies.as_slice(), "{cut}");
+    }
+    Ok(())
+}
+
+// What comes before bytes that are no request is answered.
+#[test]
+fn stops_at_another_request(rt: HostRuntime) -> Result<(), Fail> {
+    let alloc = rt.alloc();
+    for (input, replies) in [
+        ("GET /dam HTTP/1.1\r\n\r\n", 0),
+        ("GET /dom HTTP/1.1\r\n", 0),
+        ("GET /dom HTTP/1.1\r\n\r\nGET /dam HTTP/1.1\r\n\r\n", 1),
+        ("GET /dom HTTP/1.1\r\n\r\nG", 1),
+    ] {
+        let (status, output) = ran(alloc, &["stdio", "p"], PAGE, input.as_bytes(), SURE)?;
+        assert_eq!(rt; status, Status::NotBuilt, "{input}");
+        assert!(rt; output == times(alloc, REPLY, replies)?, "{input}");
+    }
+    Ok(())
+}
+
+// A source in pieces of one byte whose k-th call fails: the requests that were whole are answered.
+#[test]
+fn answers_what_was_read_before_a_fault(rt: HostRuntime) -> Result<(), Fail> {
+    let alloc = rt.alloc();
+    let words = words_of(alloc, &["stdio", "p"])?;
+    for (call, replies) in [(1, 0), (21, 0), (22, 1), (42, 1), (43, 2)] {
+        let mut shelf = shelf_of(alloc, PAGE, 0)?;
+        let pieces = vec![in alloc; 1; 50]?;
+        assert!(rt; pieces.iter().all(|piece| *piece > 0));
+        let mut source = MemorySource::new(times(alloc, DOM, 2)?, pieces, vec![in alloc; call]?);
+        let mut sink = SureSink::new(Vec::new(alloc));
+        let status = run(alloc, &words, &mut shelf, &mut source, &mut sink);
+        assert_eq!(rt; status, Status::ReadFault, "{call}");
+        assert!(rt;
+            sink.bytes() == times(alloc, REPLY, replies)?.as_slice(),
+            "{call}"
+        );
+    }
+    Ok(())
+}
+
+// One request more than a run answers.
+#[test]
+fn stops_at_the_bound(rt: HostRuntime) -> Result<(), Fail> {
+    let alloc = rt.alloc();
+    let words = words_of(alloc, &["stdio", "p"])?;
+    let mut shelf = shelf_of(alloc, b"<a></a>", 0)?;
+    let mut source = SureSource::new(times(alloc, DOM, 100_001)?);
+    let mut sink = SureSink::new(Vec::new(alloc));
+    let status = run(alloc, &words, &mut shelf, &mut source, &mut sink);
+    assert_eq!(rt; status, Status::RequestBound);
+    let reply =
+        b"HTTP/1.1 200 OK\r\nContent-Type: text/html; charset=utf-8\r\nContent-Length: 7\r\n\r\n<a></a>".as_slice();
+    assert!(rt; sink.bytes() == times(alloc, reply, 100_000)?.as_slice());
     Ok(())
 }
 

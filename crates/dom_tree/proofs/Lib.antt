@@ -1,2 +1,5 @@
-pub mod OneElement
+pub mod Asking
+pub mod Long
+pub mod Nodes
 pub mod OneText
+pub mod Steps

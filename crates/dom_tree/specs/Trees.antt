@@ -1,5 +1,5 @@
 -- Trees of elements and text nodes, as lists of siblings. Names, values and texts are lists of UTF-16 units.
-use Rattle.std.specs.Prelude.{ℕ, List}
+use Rattle.std.specs.Prelude.{◌≡◌, ℕ, List, []}
 
 -- a name and its value
 abbrev pub Attribute : Type 0
@@ -11,3 +11,9 @@ pub data Trees : Type 0 where
   none : Trees
   text : List ℕ → Trees → Trees
   element : List ℕ → List Attribute → Trees → Trees → Trees
+
+-- no element has attributes
+abbrev pub HaveNoAttributes : Trees → Type 0
+HaveNoAttributes none = Unit {0}
+HaveNoAttributes (text units more) = HaveNoAttributes more
+HaveNoAttributes (element name attributes children more) = (attributes ≡ []) × HaveNoAttributes children × HaveNoAttributes more

@@ -1,6 +1,7 @@
 //! Nodes over any heap of cells: the trees that stand there, and their text.
 #![tactic(auto)]
 
+mod escape;
 pub mod names;
 pub mod serialize;
 

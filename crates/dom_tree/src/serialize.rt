@@ -1,22 +1,25 @@
 //! The text of a node's tree.
-ghost use Rattle.std.specs.Prelude.{◌≡◌, ◌<◌, ◌≤◌, ℕ, List, [], ◌∷◌, length, IfOk, MatchOption, slice_get, false};
+ghost use Rattle.std.specs.Prelude.{◌≡◌, ◌<◌, ◌≤◌, ◌++◌, ℕ, List, [], ◌∷◌, length, IfOk, OnOk, MatchOption, slice_get, Some, false, codes, IsTrue, ◌↔◌, ◌&&◌, ◌==◌};
 ghost use Rattle.page_units.specs.declared.value.CellName.{CellName};
-ghost use Rattle.cell_places.specs.Heap.{cells_in};
+ghost use Rattle.cell_places.specs.Heap.{cells_in, text_in, place};
 ghost use Rattle.cell_places.specs.View.{heap};
 ghost use Rattle.cell_places.specs.Rooted.{Still};
 ghost use Rattle.cell_places.specs.Sound.{IsSound};
-ghost use Rattle.dom_tree.specs.Trees.{element, none};
+ghost use Rattle.cell_places.specs.Valid.{CanAsk};
+ghost use Rattle.dom_tree.specs.Names as spec;
+ghost use Rattle.dom_tree.specs.Trees.{Trees, HaveNoAttributes};
 ghost use Rattle.dom_tree.specs.TreeText.{trees_text};
+ghost use Rattle.dom_tree.specs.Appends.{Appended};
 ghost use Rattle.dom_tree.specs.Holds.{Holds, served, IsTreeText};
 
-use crate::names::is_void;
+use crate::escape::text_bytes;
+use crate::names::{is_raw, is_void};
 use cell_places::{Answer, CellKind, Cells, Place, Slot};
-use page_units::{CellName, NoMemory, Text, utf8_of};
+use page_units::{CellName, NoMemory, Text, Value, utf8_of};
 use std::alloc::Global;
 
 /// The tree text of a node in UTF-8, and None exactly where it has more than `most` bytes. So far
-/// the node's tree is one element without attributes and children. It asks places and changes
-/// nothing.
+/// no element of the tree may have attributes. It asks places and changes nothing.
 pub fn dom_text<C: Cells>(
     alloc: Global,
     cells: &mut C,
@@ -25,7 +28,7 @@ pub fn dom_text<C: Cells>(
 ) -> Result<Option<Vec<u8>>, NoMemory>
     requires sound { (codes : ℕ) × IsSound codes (heap (C.seen cells.old)) }
     requires there { node.0 < length (heap (C.seen cells.old)).kinds }
-    requires form { (name : List ℕ) × Holds (heap (C.seen cells.old)) (served (heap (C.seen cells.old)) node) (element name [] none none) }
+    requires form { (trees : Trees) × Holds (heap (C.seen cells.old)) (served (heap (C.seen cells.old)) node) trees × HaveNoAttributes trees }
     ensures text { IfOk result (λ found. MatchOption found
         ((bytes : List ℕ) × IsTreeText (heap (C.seen cells.old)) node bytes × (most < length bytes))
         (λ bytes. IsTreeText (heap (C.seen cells.old)) node bytes.items × (length bytes.items ≤ most))) }
@@ -33,65 +36,205 @@ pub fn dom_text<C: Cells>(
     ensures one { (one other : List ℕ) → IsTreeText (heap (C.seen cells.old)) node one → IsTreeText (heap (C.seen cells.old)) node other → one ≡ other }
     ensures still { Still (C.seen cells.old) (C.seen cells.new) }
 {
-    let root = served_one(cells, node)?;
-    match cells.kind_of(root) {
-        CellKind::Element(name) => Ok(short_text(element_text(alloc, name)?, most)),
-        _ => unreachable!(),
+    let mut out = Vec::new(alloc);
+    if append_served(alloc, cells, node, most, &mut out)? {
+        Ok(Some(out))
+    } else {
+        Ok(None)
     }
 }
 
-/// The one cell that is served for the node.
-fn served_one<C: Cells>(cells: &mut C, node: CellName) -> Result<CellName, NoMemory>
+/// Appends the text of what is served for the node; false as soon as more than `most` bytes are
+/// sure.
+fn append_served<C: Cells>(
+    alloc: Global,
+    cells: &mut C,
+    node: CellName,
+    most: u64,
+    out: &mut Vec<u8>,
+) -> Result<bool, NoMemory>
     requires there { node.0 < length (heap (C.seen cells.old)).kinds }
-    requires one { (n : CellName) × (served (heap (C.seen cells.old)) node ≡ n ∷ []) }
-    ensures one { IfOk result (λ n. served (heap (C.seen cells.old)) node ≡ n ∷ []) }
+    requires form { (trees : Trees) × Holds (heap (C.seen cells.old)) (served (heap (C.seen cells.old)) node) trees × HaveNoAttributes trees }
+    requires fits { length out.old.items ≤ most }
+    ensures text { IfOk result (λ whole. (trees : Trees) → Holds (heap (C.seen cells.old)) (served (heap (C.seen cells.old)) node) trees
+        → Appended whole most out.old.items out.new.items (trees_text false trees)) }
     ensures still { Still (C.seen cells.old) (C.seen cells.new) }
 {
     match cells.kind_of(node) {
         CellKind::Document => {
-            let children = cells.ask(&Place {
-                cell: node,
-                slot: Slot::Children,
-            })?;
-            Ok(first_cell(&children).unwrap_or(node))
+            let children = answer_at(cells, node, Slot::Children)?;
+            append_nodes(alloc, cells, cells_of(&children), false, most, out)
         }
-        _ => Ok(node),
+        _ => append_nodes(alloc, cells, &[node], false, most, out),
     }
 }
 
-/// The first of an answer's cells.
-fn first_cell(answer: &Answer) -> Option<CellName>
-    ensures { result ≡ slice_get (cells_in answer.now) 0 }
+/// Appends the text of siblings in the same way.
+#[cycle(append)]
+fn append_nodes<C: Cells>(
+    alloc: Global,
+    cells: &mut C,
+    nodes: &[CellName],
+    raw: bool,
+    most: u64,
+    out: &mut Vec<u8>,
+) -> Result<bool, NoMemory>
+    requires form { (trees : Trees) × Holds (heap (C.seen cells.old)) nodes.now trees × HaveNoAttributes trees }
+    requires fits { length out.old.items ≤ most }
+    ensures text { IfOk result (λ whole. (trees : Trees) → Holds (heap (C.seen cells.old)) nodes.now trees
+        → Appended whole most out.old.items out.new.items (trees_text raw trees)) }
+    ensures still { Still (C.seen cells.old) (C.seen cells.new) }
 {
-    match answer {
-        Answer::Cells(cells) => cells.get(0).copied(),
-        _ => None,
+    for node in nodes {
+        if !append_node(alloc, cells, *node, raw, most, out)? {
+            return Ok(false);
+        }
     }
+    Ok(true)
 }
 
-/// The bytes, if they are at most `most`.
-fn short_text(bytes: Vec<u8>, most: u64) -> Option<Vec<u8>>
-    ensures { MatchOption result (most < length bytes.items) (λ kept. (kept.items ≡ bytes.items) × (length bytes.items ≤ most)) }
+/// Appends the text of one node in the same way.
+#[cycle(append)]
+fn append_node<C: Cells>(
+    alloc: Global,
+    cells: &mut C,
+    node: CellName,
+    raw: bool,
+    most: u64,
+    out: &mut Vec<u8>,
+) -> Result<bool, NoMemory>
+    requires form { (trees : Trees) × Holds (heap (C.seen cells.old)) (node ∷ []) trees × HaveNoAttributes trees }
+    requires fits { length out.old.items ≤ most }
+    ensures text { IfOk result (λ whole. (trees : Trees) → Holds (heap (C.seen cells.old)) (node ∷ []) trees
+        → Appended whole most out.old.items out.new.items (trees_text raw trees)) }
+    ensures still { Still (C.seen cells.old) (C.seen cells.new) }
 {
-    if bytes.len() as u64 > most {
-        return None;
-    }
-    Some(bytes)
+    let name = match cells.kind_of(node) {
+        CellKind::Element(name) => name.clone()?,
+        _ => return append_chars(alloc, cells, node, raw, most, out),
+    };
+    append_element(alloc, cells, node, &name, most, out)
 }
 
-/// The text of an element of this name without attributes and children.
-fn element_text(alloc: Global, name: &Text) -> Result<Vec<u8>, NoMemory>
-    ensures { IfOk result (λ bytes. bytes.items ≡ trees_text false (element name.now [] none none)) }
+/// Appends the text of an element of this name in the same way.
+#[cycle(append)]
+fn append_element<C: Cells>(
+    alloc: Global,
+    cells: &mut C,
+    node: CellName,
+    name: &Text,
+    most: u64,
+    out: &mut Vec<u8>,
+) -> Result<bool, NoMemory>
+    requires kind { slice_get (heap (C.seen cells.old)).kinds node.0 ≡ Some (CellKind.Element name.now) }
+    requires form { (trees : Trees) × Holds (heap (C.seen cells.old)) (node ∷ []) trees × HaveNoAttributes trees }
+    requires fits { length out.old.items ≤ most }
+    ensures text { IfOk result (λ whole. (trees : Trees) → Holds (heap (C.seen cells.old)) (node ∷ []) trees
+        → Appended whole most out.old.items out.new.items (trees_text false trees)) }
+    ensures still { Still (C.seen cells.old) (C.seen cells.new) }
 {
     let written = utf8_of(alloc, name)?;
-    let mut bytes = Vec::new(alloc);
-    bytes.push(b'<')?;
-    bytes.extend_from_slice(&written)?;
-    bytes.push(b'>')?;
-    if !is_void(name) {
-        bytes.extend_from_slice(b"</")?;
-        bytes.extend_from_slice(&written)?;
-        bytes.push(b'>')?;
+    append_start(&written, out)?;
+    let answer = answer_at(cells, node, Slot::Children)?;
+    let children = cells_of(&answer);
+    if is_start_only(name, children) {
+        return Ok(is_within(out, most));
     }
-    Ok(bytes)
+    if !is_within(out, most) {
+        return Ok(false);
+    }
+    if !append_nodes(alloc, cells, children, is_raw(name), most, out)? {
+        return Ok(false);
+    }
+    append_end(&written, out)?;
+    Ok(is_within(out, most))
+}
+
+/// Appends the text of a text node in the same way.
+fn append_chars<C: Cells>(
+    alloc: Global,
+    cells: &mut C,
+    node: CellName,
+    raw: bool,
+    most: u64,
+    out: &mut Vec<u8>,
+) -> Result<bool, NoMemory>
+    requires kind { slice_get (heap (C.seen cells.old)).kinds node.0 ≡ Some CellKind.Chars }
+    requires fits { length out.old.items ≤ most }
+    ensures text { IfOk result (λ whole. (trees : Trees) → Holds (heap (C.seen cells.old)) (node ∷ []) trees
+        → Appended whole most out.old.items out.new.items (trees_text raw trees)) }
+    ensures still { Still (C.seen cells.old) (C.seen cells.new) }
+{
+    let answer = answer_at(cells, node, Slot::Chars)?;
+    let units = units_of(&answer);
+    // A text has at least as many bytes as units.
+    if units.len() as u64 > most - out.len() as u64 {
+        return Ok(false);
+    }
+    let written = text_bytes(alloc, units, raw)?;
+    out.extend_from_slice(&written)?;
+    Ok(is_within(out, most))
+}
+
+/// Whether there are at most `most` bytes.
+fn is_within(bytes: &[u8], most: u64) -> bool
+    ensures { IsTrue result ↔ length bytes.now ≤ most }
+{
+    bytes.len() as u64 <= most
+}
+
+/// Whether an element of this name and these children ends after its start tag.
+fn is_start_only(name: &Text, children: &[CellName]) -> bool
+    ensures { result ≡ (spec.is_void name.now && (length children.now == 0)) }
+{
+    is_void(name) && children.is_empty()
+}
+
+/// What stands in a slot of a node. Nothing changes.
+fn answer_at<C: Cells>(cells: &mut C, node: CellName, slot: Slot) -> Result<Answer, NoMemory>
+    requires { CanAsk (heap (C.seen cells.old)) (place node slot) }
+    ensures answer { IfOk result (λ a. a ≡ (heap (C.seen cells.old)).at (place node slot)) }
+    ensures still { Still (C.seen cells.old) (C.seen cells.new) }
+{
+    cells.ask(&Place { cell: node, slot })
+}
+
+/// The cells of an answer.
+fn cells_of(answer: &Answer) -> &[CellName]
+    ensures { result.now ≡ cells_in answer.now }
+{
+    match answer {
+        Answer::Cells(cells) => cells.as_slice(),
+        _ => &[],
+    }
+}
+
+/// The units of an answer's text.
+fn units_of(answer: &Answer) -> &[u16]
+    ensures { result.now ≡ text_in answer.now }
+{
+    match answer {
+        Answer::One(Value::Str(text)) => text.units(),
+        _ => &[],
+    }
+}
+
+/// `<`, the name and `>`.
+fn append_start(name: &[u8], out: &mut Vec<u8>) -> Result<(), NoMemory>
+    ensures { OnOk result (out.new.items ≡ out.old.items ++ (codes "<" ++ (name.now ++ codes ">"))) }
+{
+    out.push(b'<')?;
+    out.extend_from_slice(name)?;
+    out.push(b'>')?;
+    Ok(())
+}
+
+/// `</`, the name and `>`.
+fn append_end(name: &[u8], out: &mut Vec<u8>) -> Result<(), NoMemory>
+    ensures { OnOk result (out.new.items ≡ out.old.items ++ (codes "</" ++ (name.now ++ codes ">"))) }
+{
+    out.extend_from_slice(b"</")?;
+    out.extend_from_slice(name)?;
+    out.push(b'>')?;
+    Ok(())
 }

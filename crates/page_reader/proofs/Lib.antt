@@ -1,4 +1,13 @@
-pub mod Lengths
+pub mod Ascii
+pub mod Classes
+pub mod Decided
+pub mod NodeTrees
+pub mod Plain
+pub mod Turns
+pub mod Whole
+pub mod TreesActs
 pub mod PlantingIsSound
-pub mod NamesAreOne
+pub mod Siblings
+pub mod PlantedTrees
 pub mod PlantingSteps
+pub mod PagePlanted

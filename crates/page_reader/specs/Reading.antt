@@ -2,7 +2,7 @@
 use Rattle.std.specs.Prelude.{◌≡◌, ◌≤◌, ℕ, List, length, false}
 use Rattle.cell_places.specs.View.{View, heap, run}
 use Rattle.cell_places.specs.Start.{document_cell}
-use Rattle.dom_tree.specs.Trees.{Trees}
+use Rattle.dom_tree.specs.Trees.{Trees, HaveNoAttributes}
 use Rattle.dom_tree.specs.TreeText.{trees_text}
 use Rattle.dom_tree.specs.Holds.{Holds, served}
 use Rattle.page_reader.specs.Page.{IsPage}
@@ -16,3 +16,5 @@ pub record ReadsPage (old new : View) (bytes : List ℕ) : Type 0 where
   pub holds : Holds (heap new) (served (heap new) document_cell) trees
   -- so far a tree's text is no longer than its page
   pub short : length (trees_text false trees) ≤ length bytes
+  -- and no element of it has attributes
+  pub plain : HaveNoAttributes trees

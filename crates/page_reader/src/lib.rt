@@ -1,7 +1,10 @@
 //! Pages: from bytes to trees, and into a heap.
 #![tactic(auto)]
 
-mod name;
+mod byte_classes;
+mod node;
 pub mod page;
+mod plant;
+mod reader;
 
 pub use page::{PageParts, ScriptText, read_page};

@@ -22,4 +22,4 @@ returns-clause-headline g c = λ name page bytes old w f l o.
     let some = rw c.in-Ok-Some.field-0-is at c.in-Ok-Some.ensures in
     let loads : Loads (take 1048577 page) (heap_of c.in-Ok-Some.base) = subst (λ (z : List ℕ). Loads z (heap_of c.in-Ok-Some.base)) text some.0 in
     let s = c.serve_stream.ensures.stream bytes old l o in
-    rw c.status_of.ensures (s.0, s.1, headline_of c.serve_stream.result _ bytes s.0 _ (record { start = _; last = _; loads = loads; stream = s.2 }))
+    rw c.status_of.ensures (s.0, s.1, headline_of c.serve_stream.result _ bytes s.0 _ (record { start = _; last = _; count = _; loads = loads; stream = s.2 }))

@@ -1,22 +1,66 @@
-use Rattle.std.proofs.Common.{◌≡◌, ◌≢◌, ap, ◌∙◌, rules}
+use Rattle.std.proofs.Common.{◌≡◌, ℕ, List, take, refl, ap, ◌∙◌, rules, arith, Ok, Err}
+use Rattle.std.proofs.lemmas.Grind.{common_steps}
 use Rattle.std.proofs.lemmas.Result.{err_from_is_err_and}
-use Rattle.cromhost.specs.Requests.{dom_request}
-use Rattle.cromhost.specs.Stream.{end_without}
-use Rattle.cromhost.proofs.Streams.{without, behind, unread}
+use Rattle.page_units.specs.Outside.{after}
+use Rattle.cromhost.specs.Replies.{reply_bytes}
+use Rattle.cromhost.specs.declared.stream.StreamEnd.TheVariants.{Misfit, WriteFault}
+use Rattle.cromhost.proofs.Streams.{started, went_on, ended, cut_off}
 use Rattle.cromhost.proofs.stream.serve_stream.Goals as goal
 
-pub returns-in_err-stop-clause-stream : goal.returns-in_err-stop-clause-stream
-returns-in_err-stop-clause-stream g c =
+pub loop-wire-init : goal.loop-wire-init
+loop-wire-init g c = record {
+  progress = started _ _ _ _ _ c.new-wire.ensures;
+  ready = c.requires.ready;
+  source = refl;
+  sink = refl;
+  bound = search rules;
+}
+
+pub returns-in_err-asked-clause-stream : goal.returns-in_err-asked-clause-stream
+returns-in_err-asked-clause-stream g c =
     let p = err_from_is_err_and c.from_residual.result c.from_residual.ensures.1 in
-    λ bytes old e f. unread c.from_residual.result p.0 p.1 _ _ _ bytes old f
+    rw p.1 (λ bytes old e f. ended (Err p.0) _ _ _ _ _ _ _ _ _ _ _ bytes old c.loop-wire.invariant.progress (λ rest q. tt) tt e f)
 
-pub returns-then-is_dom_request-clause-stream : goal.returns-then-is_dom_request-clause-stream
-returns-then-is_dom_request-clause-stream g c =
-    let same : c.fill.new.held.items ≡ dom_request = search rules in
-    λ bytes old e f. behind c.answer_whole.result c.in_ok-stop.stop c.fill.new.held.items _ _ _ _ _ _ bytes old c.in_ok-stop.ensures.says same c.answer_whole.ensures.answered e f
+pub returns-in_err-reply-in-Request-clause-stream : goal.returns-in_err-reply-in-Request-clause-stream
+returns-in_err-reply-in-Request-clause-stream g c =
+    let p = err_from_is_err_and c.from_residual-in_err-reply-in-Request.result c.from_residual-in_err-reply-in-Request.ensures.1 in
+    rw p.1 (λ bytes old e f. ended (Err p.0) _ _ _ _ _ _ _ _ _ _ _ bytes old c.loop-wire.invariant.progress (λ rest q. tt) tt e f)
 
-pub returns-clause-stream : goal.returns-clause-stream
-returns-clause-stream g c =
-    let other : c.fill.new.held.items ≢ dom_request = search rules in
-    let ends : c.end_without.result ≡ end_without c.in_ok-stop.stop c.fill.new.held.items = c.end_without.ensures ∙ ap (end_without c.in_ok-stop.stop) c.as_slice-else-is_dom_request.ensures.value in
-    λ bytes old e f. rw ends (without c.in_ok-stop.stop _ _ _ _ _ bytes old c.in_ok-stop.ensures.says other e f)
+pub returns-in_err-write_all-in-Request-clause-stream : goal.returns-in_err-write_all-in-Request-clause-stream
+returns-in_err-write_all-in-Request-clause-stream g c =
+    let p = err_from_is_err_and c.from_residual-in_err-write_all-in-Request.result c.from_residual-in_err-write_all-in-Request.ensures.1 in
+    let says = rw c.in-Request.is at c.in_ok-asked.ensures.says in
+    let step = c.in_ok-reply-in-Request.ensures.step in
+    let front = c.write_all.ensures.front in
+    let went : g.W.Sink.told c.write_all.new.sink ≡ after (g.W.Sink.told c.loop-wire.sink) (take front.0 (reply_bytes step.0)) =
+    front.1 ∙ ap (λ (z : List ℕ). after (g.W.Sink.told c.loop-wire.sink) (take front.0 z)) (c.as_slice.ensures.value ∙ step.2) in
+    rw p.1 (λ bytes old e f. cut_off (Err p.0) _ _ _ _ _ _ _ _ _ _ _ _ _ _ says.0 bytes old _ step.0 front.0 c.loop-wire.invariant.progress says.1 says.2 step.1 refl went (λ rest. tt) tt (λ written all h. h) e f)
+
+pub returns-in-Failed-2-clause-stream : goal.returns-in-Failed-2-clause-stream
+returns-in-Failed-2-clause-stream g c = λ bytes old e f.
+    let says = rw c.in-Request.is at c.in_ok-asked.ensures.says in
+    let step = c.in_ok-reply-in-Request.ensures.step in
+    let front = c.write_all.ensures.front in
+    let went : g.W.Sink.told c.write_all.new.sink ≡ after (g.W.Sink.told c.loop-wire.sink) (take front.0 (reply_bytes step.0)) =
+    front.1 ∙ ap (λ (z : List ℕ). after (g.W.Sink.told c.loop-wire.sink) (take front.0 z)) (c.as_slice.ensures.value ∙ step.2) in
+    cut_off (Ok WriteFault) _ _ _ _ _ _ _ _ _ _ _ _ _ _ says.0 bytes old _ step.0 front.0 c.loop-wire.invariant.progress says.1 says.2 step.1 refl went (λ rest. tt) refl (λ written all h. h) e f
+
+pub loop-wire-preserved : goal.loop-wire-preserved
+loop-wire-preserved g c =
+    let says = rw c.in-Request.is at c.in_ok-asked.ensures.says in
+    let step = c.in_ok-reply-in-Request.ensures.step in
+    let all = rw c.in-All.is at c.in_ok-write_all-in-Request.ensures.all in
+    let went : g.W.Sink.told c.write_all.new.sink ≡ after (g.W.Sink.told c.loop-wire.sink) (reply_bytes step.0) =
+    all ∙ ap (after (g.W.Sink.told c.loop-wire.sink)) (c.as_slice.ensures.value ∙ step.2) in
+    record {
+      progress = went_on _ _ _ _ _ _ _ _ _ _ _ _ says.0 _ step.0 c.loop-wire.invariant.progress says.1 says.2 step.1 went refl;
+      ready = c.in_ok-reply-in-Request.ensures.ready;
+      source = grind (arith, common_steps);
+      sink = grind (arith, common_steps);
+      bound = omega arith;
+    }
+
+pub returns-in-Misfit-clause-stream : goal.returns-in-Misfit-clause-stream
+returns-in-Misfit-clause-stream g c = λ bytes old e f.
+    let says = rw c.in-Misfit.is at c.in_ok-asked.ensures.says in
+    ended (Ok Misfit) _ _ _ _ _ _ _ _ _ _ _ bytes old c.loop-wire.invariant.progress says refl e f

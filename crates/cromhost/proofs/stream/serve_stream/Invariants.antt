@@ -1,0 +1,22 @@
+use Rattle.std.proofs.Common.{◌≡◌, ◌≤◌, ◌-◌}
+use Rattle.page_units.specs.Outside.{before}
+use Rattle.cell_heap.specs.Base.{heap_of}
+use Rattle.cromhost.specs.Ready.{IsReady}
+use Rattle.cromhost.specs.Stream.{Progress}
+use Rattle.cromhost.proofs.stream.serve_stream.Given as goal
+
+-- the requests so far are answered
+abbrev pub invariant-loop-wire : goal.invariant-loop-wire
+invariant-loop-wire g l =
+    let left = g.S.Source.left in
+    let told = g.W.Sink.told in
+    record {
+      progress : Progress (heap_of l.fn.base) (heap_of l.base) l.fn.served l.served (left l.fn.source) (before l.wire.held.items (left l.source)) (told l.fn.sink) (told l.sink);
+      ready : IsReady (heap_of l.base);
+      source : g.S.Source.faults l.source ≡ g.S.Source.faults l.fn.source;
+      sink : g.W.Sink.faults l.sink ≡ g.W.Sink.faults l.fn.sink;
+      bound : l.served ≤ l.most;
+    }
+
+abbrev pub decreases-loop-wire : goal.decreases-loop-wire
+decreases-loop-wire g l = l.most - l.served

@@ -1,0 +1,155 @@
+//! Puts the tree of a page into a heap.
+ghost use Rattle.std.specs.Prelude.{◌≡◌, ◌<◌, ◌≤◌, ◌+◌, [], ◌∷◌, true, length, IfOk, OnOk, OnErr};
+ghost use Rattle.cell_places.specs.Kinds.{is_child};
+ghost use Rattle.cell_places.specs.Heap.{place, next};
+ghost use Rattle.cell_places.specs.View.{heap, step, run};
+ghost use Rattle.cell_places.specs.Acts.{placed};
+ghost use Rattle.cell_places.specs.Valid.{CanAsk, CanPut};
+ghost use Rattle.cell_places.specs.Rooted.{Rooted};
+ghost use Rattle.cell_places.specs.Within.{is_below, NameIn};
+ghost use Rattle.cell_places.specs.Lists.{Every};
+ghost use Rattle.cell_places.specs.Start.{document_cell, node_prototype};
+ghost use Rattle.dom_tree.specs.Trees.{HaveNoAttributes};
+ghost use Rattle.page_reader.specs.NodeTrees.{trees_of};
+ghost use Rattle.page_reader.specs.Planting.{planting, node_count, root_names, node_acts, children_acts, trees_acts};
+
+use crate::node::Node;
+use cell_places::{Answer, CellKind, Cells, Place, Slot};
+use page_units::{CellName, NoMemory, Shared, Value};
+use sqlite_items::Items;
+use std::alloc::Global;
+
+/// The cell of the document.
+const DOCUMENT: CellName = CellName(2);
+
+/// The cell of the nodes' prototype.
+const NODE_PROTOTYPE: CellName = CellName(14);
+
+/// Puts a page's root with all that is in it under the document. After want of memory the heap is
+/// to be given up.
+pub(crate) fn plant<C: Cells>(alloc: Global, cells: &mut C, root: &Node) -> Result<(), NoMemory>
+    requires document { CanAsk (heap (C.seen cells.old)) (place document_cell Slot.Children) }
+    requires prototype { node_prototype.0 < length (heap (C.seen cells.old)).kinds }
+    requires room { length (heap (C.seen cells.old)).kinds + node_count (trees_of (root.now ∷ [])) ≤ 4000000000 }
+    requires plain { HaveNoAttributes (trees_of (root.now ∷ [])) }
+    ensures acts { OnOk result (C.seen cells.new ≡ run (C.seen cells.old) (planting (heap (C.seen cells.old)) (trees_of (root.now ∷ [])))) }
+    ensures rooted { Rooted (C.seen cells.old) (C.seen cells.new) }
+{
+    let node = plant_node(alloc, cells, DOCUMENT, root)?;
+    let mut names = Vec::with_capacity(alloc, 1)?;
+    names.push(node)?;
+    put_children(cells, DOCUMENT, names)
+}
+
+/// Plants siblings under their parent, and answers their names.
+#[cycle(planting)]
+fn plant_siblings<C: Cells>(
+    alloc: Global,
+    cells: &mut C,
+    parent: CellName,
+    nodes: &Items<Node>,
+) -> Result<Vec<CellName>, NoMemory>
+    requires parent { CanAsk (heap (C.seen cells.old)) (place parent Slot.Children) }
+    requires prototype { node_prototype.0 < length (heap (C.seen cells.old)).kinds }
+    requires room { length (heap (C.seen cells.old)).kinds + node_count (trees_of nodes.now) ≤ 4000000000 }
+    requires plain { HaveNoAttributes (trees_of nodes.now) }
+    ensures acts { OnOk result (C.seen cells.new ≡ run (C.seen cells.old) (trees_acts parent (length (heap (C.seen cells.old)).kinds) (trees_of nodes.now))) }
+    ensures names { IfOk result (λ names. names.items ≡ root_names (length (heap (C.seen cells.old)).kinds) (trees_of nodes.now)) }
+    ensures rooted { Rooted (C.seen cells.old) (C.seen cells.new) }
+{
+    let mut names = Vec::new(alloc);
+    'siblings: for node in nodes.as_slice() {
+        names.push(plant_node(alloc, cells, parent, node)?)?;
+    }
+    Ok(names)
+}
+
+/// Plants a node with all that is in it under its parent, and answers its name.
+#[cycle(planting)]
+fn plant_node<C: Cells>(
+    alloc: Global,
+    cells: &mut C,
+    parent: CellName,
+    node: &Node,
+) -> Result<CellName, NoMemory>
+    requires parent { CanAsk (heap (C.seen cells.old)) (place parent Slot.Children) }
+    requires prototype { node_prototype.0 < length (heap (C.seen cells.old)).kinds }
+    requires room { length (heap (C.seen cells.old)).kinds + node_count (trees_of (node.now ∷ [])) ≤ 4000000000 }
+    requires plain { HaveNoAttributes (trees_of (node.now ∷ [])) }
+    ensures acts { OnOk result (C.seen cells.new ≡ run (C.seen cells.old) (trees_acts parent (length (heap (C.seen cells.old)).kinds) (trees_of (node.now ∷ [])))) }
+    ensures name { IfOk result (λ name. name ≡ next (heap (C.seen cells.old))) }
+    ensures rooted { Rooted (C.seen cells.old) (C.seen cells.new) }
+{
+    match node {
+        Node::Chars(units) => {
+            let name = make_node(cells, parent, CellKind::Chars)?;
+            let chars = Place {
+                cell: name,
+                slot: Slot::Chars,
+            };
+            cells.put(&chars, Answer::One(Value::Str(units.clone()?)))?;
+            Ok(name)
+        }
+        Node::Element(tag, _, children) => {
+            let name = make_node(cells, parent, CellKind::Element(tag.clone()?))?;
+            let names = plant_siblings(alloc, cells, name, children)?;
+            put_children(cells, name, names)?;
+            Ok(name)
+        }
+    }
+}
+
+/// Makes a node of this kind, with the nodes' prototype and its parent.
+fn make_node<C: Cells>(
+    cells: &mut C,
+    parent: CellName,
+    kind: CellKind,
+) -> Result<CellName, NoMemory>
+    requires parent { CanAsk (heap (C.seen cells.old)) (place parent Slot.Children) }
+    requires prototype { node_prototype.0 < length (heap (C.seen cells.old)).kinds }
+    requires room { length (heap (C.seen cells.old)).kinds < 4000000000 }
+    requires child { is_child kind ≡ true }
+    ensures acts { OnOk result (C.seen cells.new ≡ run (C.seen cells.old) (node_acts (length (heap (C.seen cells.old)).kinds) kind parent)) }
+    ensures name { IfOk result (λ name. name ≡ next (heap (C.seen cells.old))) }
+    ensures rooted { Rooted (C.seen cells.old) (C.seen cells.new) }
+{
+    let node = cells.make(kind)?;
+    put_cell(cells, node, Slot::Proto, NODE_PROTOTYPE)?;
+    put_cell(cells, node, Slot::Parent, parent)?;
+    Ok(node)
+}
+
+/// Puts a cell's name at a slot.
+fn put_cell<C: Cells>(
+    cells: &mut C,
+    cell: CellName,
+    slot: Slot,
+    value: CellName,
+) -> Result<(), NoMemory>
+    requires { CanPut (heap (C.seen cells.old)) (place cell slot) (Answer.One (Value.Cell value)) }
+    ensures ok { OnOk result (C.seen cells.new ≡ step (C.seen cells.old) (placed (place cell slot) (Answer.One (Value.Cell value)))) }
+    ensures err { OnErr result (C.seen cells.new ≡ C.seen cells.old) }
+{
+    cells.put(&Place { cell, slot }, Answer::One(Value::Cell(value)))
+}
+
+/// Puts a node's children, where it has any.
+fn put_children<C: Cells>(
+    cells: &mut C,
+    node: CellName,
+    names: Vec<CellName>,
+) -> Result<(), NoMemory>
+    requires node { CanAsk (heap (C.seen cells.old)) (place node Slot.Children) }
+    requires names { Every (NameIn (is_below (length (heap (C.seen cells.old)).kinds))) names.items }
+    ensures acts { OnOk result (C.seen cells.new ≡ run (C.seen cells.old) (children_acts node names.items)) }
+    ensures err { OnErr result (C.seen cells.new ≡ C.seen cells.old) }
+{
+    if names.is_empty() {
+        return Ok(());
+    }
+    let children = Place {
+        cell: node,
+        slot: Slot::Children,
+    };
+    cells.put(&children, Answer::Cells(Shared::of_vec(names)?))
+}
