@@ -1,0 +1,20 @@
+use Rattle.std.proofs.Common.{◌≡◌, ◌-◌, vec_len}
+use Rattle.page_units.specs.Outside.{before}
+use Rattle.http_wire.specs.Outcomes.{IsUnfinished}
+use Rattle.http_wire.specs.Answers.{ReadsLittle}
+use Rattle.http_wire.proofs.wire.Wire.next.Given as goal
+
+-- what is held and what is left are what they were, and only an unfinished request was read on
+abbrev pub invariant-reading : goal.invariant-reading
+invariant-reading g l =
+    let left = g.S.Source.left in
+    let faults = g.S.Source.faults in
+    record {
+      ahead : before l.self.held.items (left l.source) ≡ before l.fn.self.held.items (left l.fn.source);
+      count : faults l.source ≡ faults l.fn.source;
+      still : ¬ (IsUnfinished l.fn.self.held.items) → (l.source ≡ l.fn.source) × (l.self.held.items ≡ l.fn.self.held.items);
+      little : ReadsLittle l.fn.self.held.items l.self.held.items;
+    }
+
+abbrev pub decreases-reading : goal.decreases-reading
+decreases-reading g l = 81920 - vec_len l.self.held

@@ -1,0 +1,5 @@
+pub mod Fields
+pub mod Messages
+pub mod Outcomes
+pub mod Held
+pub mod Answers
