@@ -224,6 +224,22 @@ fn keeps_the_limits(rt: HostRuntime) -> Result<(), Fail> {
     Ok(())
 }
 
+// As many fields of three bytes as a head can hold, and one more.
+#[test]
+fn has_room_for_each_field(rt: HostRuntime) -> Result<(), Fail> {
+    let alloc = rt.alloc();
+    for (count, want) in [(5456, "GET / 1.1 keep []; end"), (5457, "HeadTooLarge")] {
+        let mut head = Vec::from_slice(alloc, b"GET / HTTP/1.1\n")?;
+        for _ in 0..count {
+            head.extend_from_slice(b"a:\n")?;
+        }
+        head.push(b'\n')?;
+        let text = told(alloc, head.as_slice(), 4096, Vec::new(alloc))?;
+        assert_eq!(rt; text.as_str(), want, "{count}");
+    }
+    Ok(())
+}
+
 // A failed read is told, and loses no byte.
 #[test]
 fn tells_a_failed_read(rt: HostRuntime) -> Result<(), Fail> {
