@@ -1,5 +1,9 @@
+pub mod Blanks
 pub mod Coding
+pub mod Limits
+pub mod LimitsOf
 pub mod Memory
+pub mod Metered
 pub mod Numbers
 pub mod Outside
 pub mod Shelves

@@ -1,6 +1,8 @@
 -- Objects in memory: which of their calls fail, and how long their pieces are (this project's own).
-use Rattle.std.specs.Prelude.{ℕ, ◌+◌, ◌-◌, ◌^◌, min, Bool, List, drop, Option, Some, nat_eq, nat_lt, slice_index_or}
+use Rattle.std.specs.Prelude.{◌≡◌, ℕ, ◌+◌, ◌-◌, ◌^◌, min, Bool, List, drop, Option, Some, nat_eq, nat_lt, slice_index_or}
 use Rattle.std.specs.List.{list_any, list_all}
+use Rattle.page_units.specs.declared.source.Took.{Took}
+use Rattle.page_units.specs.declared.source.Took.TheVariants.{Got, End, Failed}
 
 -- one more, and at the last value of a counter the same
 abbrev pub next_count : ℕ → ℕ
@@ -22,3 +24,9 @@ piece_length pieces given most = min (slice_index_or pieces given most) most
 -- the bytes from a place on, which are told
 abbrev pub left_from : List ℕ → ℕ → Option (List ℕ)
 left_from bytes at = Some (drop at bytes)
+
+-- a read moves the place in the bytes by as many as it got
+abbrev pub MovesOn : Took → (at at' : ℕ) → Type 0
+MovesOn (Got count) at at' = at' ≡ at + count
+MovesOn End at at' = at' ≡ at
+MovesOn Failed at at' = at' ≡ at

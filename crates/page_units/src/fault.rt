@@ -28,13 +28,17 @@ impl From<AllocError> for RunFault {
     }
 }
 
-/// The bound at which a command stopped: steps or depth of a task, the heap's weight, the page
-/// requests of a command, or the timer firings of a tick.
+/// The bound at which a command stopped.
 #[derive(Clone, Copy, Debug, PartialEq, Eq)]
 pub enum Stopped {
+    /// The steps of a task.
     Steps,
+    /// The weight that the heap may spend.
     Weight,
+    /// How deep an evaluation may go.
     Depth,
+    /// The page requests of a command.
     Requests,
+    /// The timer firings of a tick.
     Timers,
 }

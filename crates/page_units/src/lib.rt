@@ -2,9 +2,12 @@
 //! outside that is read, written and fetched. Nothing here knows of heaps, pages or routes.
 #![tactic(auto)]
 
+pub mod blanks;
 pub mod coding;
 pub mod event;
 pub mod fault;
+pub mod limits;
+pub mod meter;
 pub mod operator;
 pub mod shared;
 pub mod shelf;
@@ -14,9 +17,12 @@ pub mod standard;
 pub mod text;
 pub mod value;
 
+pub use blanks::{is_line_terminator, is_white_space};
 pub use coding::{text_of_utf8, utf8_of};
 pub use event::{PageEvent, Response};
 pub use fault::{NoMemory, RunFault, Stopped};
+pub use limits::{Limit, Limits};
+pub use meter::Meter;
 pub use operator::{BinOp, UnOp};
 pub use shared::Shared;
 pub use shelf::{FETCHED_BYTES, Fetched, MemoryShelf, Shelf};

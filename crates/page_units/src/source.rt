@@ -1,7 +1,8 @@
 //! Bytes that come.
 ghost use Rattle.std.specs.Prelude.{◌≡◌, ℕ, ◌+◌, ◌-◌, ◌<◌, ◌≤◌, min, List, [], ◌++◌, length, take, drop, Option, Some, None, IsTrue, IsFalse};
 ghost use Rattle.page_units.specs.Outside.{before, Rose, IfGot, OnEnd, OnFailed, OnNotFailed};
-ghost use Rattle.page_units.specs.Memory.{next_count, is_failing, are_pieces, piece_length, left_from};
+ghost use Rattle.page_units.specs.Memory.{next_count, is_failing, are_pieces, piece_length, left_from, MovesOn};
+ghost use Rattle.page_units.specs.declared.source.Took.{Took};
 
 /// What a read answered.
 #[derive(Clone, Copy, Debug, PartialEq, Eq)]
@@ -22,6 +23,11 @@ pub trait Source {
     /// How many faults there were.
     ghost faults: { Self → ℕ };
 
+    /// What one read does: the source before it, its answer and the source after it. Each
+    /// implementation tells as much of it as can be told; what is proved of every source is said
+    /// in these steps.
+    ghost read_once: { Self → Took → Self → Type 0 };
+
     /// Reads some of the bytes that are left into the front of the buffer, which must have room.
     fn read(&mut self, into: &mut [u8]) -> Took
         requires { 0 < length into.old }
@@ -33,7 +39,8 @@ pub trait Source {
         ensures end { OnEnd result (left self.new ≡ left self.old) }
         ensures failed { OnFailed result (left self.new ≡ left self.old) }
         ensures rose { OnFailed result (Rose (faults self.old) (faults self.new)) }
-        ensures count { OnNotFailed result (faults self.new ≡ faults self.old) };
+        ensures count { OnNotFailed result (faults self.new ≡ faults self.old) }
+        ensures once { read_once self.old result self.new };
 }
 
 /// Bytes in memory that come in pieces of given lengths. The calls of `read` with the numbers in
@@ -102,6 +109,9 @@ impl Source for MemorySource {
 
     ghost faults = { λ s. s.fault_count };
 
+    ghost read_once = { λ old took new.
+        (new.calls ≡ next_count old.calls) × MovesOn took old.at new.at };
+
     fn read(&mut self, into: &mut [u8]) -> Took
         requires { 0 < length into.old }
         ensures some { IfGot result (λ count. 0 < count) }
@@ -111,6 +121,8 @@ impl Source for MemorySource {
         ensures over { OnEnd result (drop self.old.at self.old.bytes.items ≡ []) }
         ensures rose { OnFailed result (Rose self.old.fault_count self.new.fault_count) }
         ensures count { OnNotFailed result (self.new.fault_count ≡ self.old.fault_count) }
+        ensures once { (self.new.calls ≡ next_count self.old.calls)
+            × MovesOn result self.old.at self.new.at }
 
         // When it fails, and how many bytes it gives otherwise.
         ensures fails { OnFailed result (IsTrue (is_failing self.old.fails.items self.old.calls)) }
@@ -176,6 +188,8 @@ impl Source for SureSource {
 
     ghost faults = { λ _. 0 };
 
+    ghost read_once = { λ old took new. MovesOn took old.at new.at };
+
     fn read(&mut self, into: &mut [u8]) -> Took
         requires { 0 < length into.old }
         ensures some { IfGot result (λ count. 0 < count) }
@@ -184,6 +198,7 @@ impl Source for SureSource {
             ≡ before (take count into.new) (left_from self.new.bytes.items self.new.at)) }
         ensures over { OnEnd result (drop self.old.at self.old.bytes.items ≡ []) }
         ensures sure { OnFailed result ⊥ }
+        ensures once { MovesOn result self.old.at self.new.at }
         ensures piece { let rest = length self.old.bytes.items - self.old.at in
             IfGot result (λ count. count ≡ min rest (length into.old)) }
         ensures end { OnEnd result (self.new ≡ self.old) }

@@ -1,5 +1,5 @@
 //! The outside as the runtime gives it. What a stream or a file contains is not told.
-ghost use Rattle.std.specs.Prelude.{◌≡◌, ℕ, ◌<◌, ◌≤◌, List, [], length, take, None, IfOk};
+ghost use Rattle.std.specs.Prelude.{◌≡◌, ℕ, ◌<◌, ◌≤◌, List, [], length, take, None, IfOk, ⊤};
 ghost use Rattle.std.specs.Io.KnownBytes.{Keeps, Appends, Consumes, IsAtEnd};
 ghost use Rattle.page_units.specs.Memory.{next_count};
 ghost use Rattle.page_units.specs.Outside.{before, after, Rose, IfGot, OnEnd, OnFailed, OnNotFailed, IfTook, OnNotTook, OnWriteFailed, OnWriteNotFailed};
@@ -40,6 +40,9 @@ impl<R: Read> Source for StdSource<R> {
     ghost left = { λ _. None };
 
     ghost faults = { λ s. s.fault_count };
+
+    // What a read gives and leaves is the reader's own matter.
+    ghost read_once = { λ _ _ _. ⊤ };
 
     /// Reads once. Each error of the reader is a fault, an interrupted read too.
     fn read(&mut self, into: &mut [u8]) -> Took

@@ -12,11 +12,17 @@ pub struct CellName(pub u32);
 /// name of its cell. That numbers are whole is this project's own.
 #[derive(Drop, PartialEq, Eq)]
 pub enum Value {
+    /// The undefined value (8.1).
     Undefined,
+    /// The null value (8.2).
     Null,
+    /// A truth value (8.3).
     Bool(bool),
+    /// A whole number from -(2^53 - 1) to 2^53 - 1 (8.5).
     Num(i64),
+    /// A text of UTF-16 units (8.4).
     Str(Text),
+    /// An object, by the name of its cell (8.6).
     Cell(CellName),
 }
 
@@ -38,6 +44,8 @@ impl Clone for Value {
 /// How an evaluation ended: with a value, or with a throw of one.
 #[derive(Drop, PartialEq, Eq)]
 pub enum End {
+    /// It ended as it should, with this value.
     Value(Value),
+    /// This value was thrown.
     Throw(Value),
 }
