@@ -1,14 +1,16 @@
 -- What was read of whole requests goes on as whole requests do.
-use Rattle.std.proofs.Common.{◌≡◌, ℕ, ◌+◌, ◌<◌, ◌≤◌, List, [], ◌∷◌, ◌++◌, length, Option, Ok, refl, ap, sym, ◌∙◌, append_assoc, length-append, arith, subst, inl, inr, ◌⊎◌}
+use Rattle.std.proofs.Common.{◌≡◌, ℕ, ◌+◌, ◌<◌, ◌≤◌, List, [], ◌∷◌, ◌++◌, length, Option, Result, Ok, Err, refl, ap, sym, ◌∙◌, append_assoc, length-append, arith, subst, inl, inr, ◌⊎◌}
 use Rattle.std.proofs.lemmas.List.{append_cancel_left}
 use Rattle.page_units.specs.Outside.{Rose}
 use Rattle.cromhost.specs.declared.wire.Asked.{Asked}
-use Rattle.cromhost.specs.declared.status.Status.{Status}
-use Rattle.cromhost.specs.declared.status.Status.TheVariants.{Ended, Usage, NotBuilt, ReadFault, WriteFault, NoMemory, ShelfFault, RequestBound}
+use Rattle.cromhost.specs.declared.status.Status.TheVariants.{Ended, NoMemory}
+use Rattle.std.specs.declared.alloc.AllocError.{AllocError}
+use Rattle.cromhost.specs.declared.stream.StreamEnd.{StreamEnd}
 use Rattle.cromhost.specs.declared.stream.StreamEnd.TheVariants as end
 use Rattle.cromhost.specs.Requests as r
 use Rattle.cromhost.specs.Requests.{Requests, IsRequest, IsMisfit, BeginsRequest}
-use Rattle.cromhost.specs.Headline.{Headline, Causes, IsWhole, Served}
+use Rattle.cromhost.specs.Stream.{StreamCauses}
+use Rattle.cromhost.specs.Headline.{IsWhole, Served, status_of}
 use Rattle.cromhost.proofs.Reading.{one_text}
 
 -- what is left of whole requests after some of them
@@ -57,16 +59,13 @@ not_bound page bytes written left w served =
     let all : length w.asked ≡ length t.asked + length k.0 = k.2 in
     let few : length w.asked ≤ 100000 = w.few in omega (arith, more, full, count, all, few)
 
--- with whole requests and no fault a run comes to its end, or finds no memory
-pub complete_of : (result : Status) (page bytes written : List ℕ) (left : Option (List ℕ)) (shelf shelf' input input' output output' : ℕ)
-    → Headline result page bytes written left → Causes result shelf shelf' input input' output output' → IsWhole page bytes
-    → (Rose shelf shelf' → ⊥) → (Rose input input' → ⊥) → (Rose output output' → ⊥) → (result ≡ Ended) ⊎ (result ≡ NoMemory)
-complete_of Ended page bytes written left _ _ _ _ _ _ h c w a b d = inl refl
-complete_of NoMemory page bytes written left _ _ _ _ _ _ h c w a b d = inr refl
-complete_of Usage page bytes written left _ _ _ _ _ _ h c w a b d = absurd h
-complete_of ShelfFault page bytes written left _ _ _ _ _ _ h c w a b d = absurd (a c.0)
-complete_of ReadFault page bytes written left _ _ _ _ _ _ h c w a b d = absurd (b c.1)
-complete_of WriteFault page bytes written left _ _ _ _ _ _ h c w a b d = absurd (d c.2)
-complete_of RequestBound page bytes written left _ _ _ _ _ _ h c w a b d = absurd (not_bound page bytes written left w h)
-complete_of NotBuilt page bytes written left _ _ _ _ _ _ (inl n) c w a b d = absurd (n.0 w.loads.trees w.loads.reads)
-complete_of NotBuilt page bytes written left _ _ _ _ _ _ (inr n) c w a b d = absurd (not_misfit page bytes written left w n)
+-- with whole requests and no fault a stream comes to its end, or finds no memory
+pub complete_of : (outcome : Result StreamEnd AllocError) (page bytes written : List ℕ) (left : Option (List ℕ)) (input input' output output' : ℕ)
+    → Served outcome page bytes written left → StreamCauses outcome input input' output output' → IsWhole page bytes
+    → (Rose input input' → ⊥) → (Rose output output' → ⊥) → (status_of outcome ≡ Ended) ⊎ (status_of outcome ≡ NoMemory)
+complete_of (Ok end.End) page bytes written left _ _ _ _ h c w b d = inl refl
+complete_of (Ok end.Misfit) page bytes written left _ _ _ _ h c w b d = absurd (not_misfit page bytes written left w h)
+complete_of (Ok end.RequestBound) page bytes written left _ _ _ _ h c w b d = absurd (not_bound page bytes written left w h)
+complete_of (Ok end.ReadFault) page bytes written left _ _ _ _ h c w b d = absurd (b c.0)
+complete_of (Ok end.WriteFault) page bytes written left _ _ _ _ h c w b d = absurd (d c.1)
+complete_of (Err e) page bytes written left _ _ _ _ h c w b d = inr refl

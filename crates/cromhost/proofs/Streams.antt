@@ -12,12 +12,12 @@ use Rattle.cromhost.specs.Requests as r
 use Rattle.cromhost.specs.Requests.{Requests, IsRequest}
 use Rattle.cromhost.specs.Plain as p
 use Rattle.cromhost.specs.Plain.{Answers, PlainStep, PlainRun}
-use Rattle.cromhost.specs.Replies.{reply_bytes}
+use Rattle.cromhost.specs.Replies.{Reply, reply_bytes}
 use Rattle.cromhost.specs.Stream.{Progress, Streamed, EndsAs, Writes, IsFront, Stands}
 use Rattle.cromhost.proofs.Reading.{before_some, before_before}
 
 -- a run goes on by one step
-pub run_push : (H M E : Heap) (asked : List Asked) (gets posts : Answers) (replies : List (List ℕ)) (a : Asked) (g q : Answers) (reply : List ℕ)
+pub run_push : (H M E : Heap) (asked : List Asked) (gets posts : Answers) (replies : List Reply) (a : Asked) (g q : Answers) (reply : Reply)
     → PlainRun H asked gets posts replies M → PlainStep M a g q reply E → PlainRun H (asked ++ a ∷ []) (gets ++ g) (posts ++ q) (replies ++ reply ∷ []) E
 run_push H M E _ _ _ _ a g q reply (p.none _) step = p.more H E E a [] g q g q [] [] reply [] (sym (append-nil g)) (sym (append-nil q)) step (p.none E)
 run_push H M E _ _ _ _ a g q reply (p.more _ mid _ b others gets posts g1 q1 gs qs reply1 replies eg eq first rest) step =
@@ -56,11 +56,11 @@ started H served left told held e = record {
   went = after_nil told;
 }
 
-flat_push : (replies : List (List ℕ)) (reply : List ℕ) → flat_map reply_bytes replies ++ reply_bytes reply ≡ flat_map reply_bytes (replies ++ reply ∷ [])
+flat_push : (replies : List Reply) (reply : Reply) → flat_map reply_bytes replies ++ reply_bytes reply ≡ flat_map reply_bytes (replies ++ reply ∷ [])
 flat_push replies reply = flat_map_more reply_bytes [] replies reply
 
 -- one more request is answered whole
-pub went_on : (H M E : Heap) (served n n' : ℕ) (left ahead ahead' told t t' : Option (List ℕ)) (bytes : List ℕ) (a : Asked) (reply : List ℕ)
+pub went_on : (H M E : Heap) (served n n' : ℕ) (left ahead ahead' told t t' : Option (List ℕ)) (bytes : List ℕ) (a : Asked) (reply : Reply)
     → Progress H M served n left ahead told t → IsRequest bytes a → ahead ≡ before bytes ahead' → PlainStep M a [] [] reply E → t' ≡ after t (reply_bytes reply) → n' ≡ n + 1
     → Progress H E served n' left ahead' told t'
 went_on H M E served n n' left ahead ahead' told t t' bytes a reply q one came step went up = record {
@@ -113,7 +113,7 @@ front_push [] others k = ap (λ (i : ℕ). take i others) (let e : k ≡ 0 + k =
 front_push (x ∷ all) others k = ap (λ (z : List ℕ). x ∷ z) (front_push all others k) ∙ ap (λ (i : ℕ). take i (x ∷ (all ++ others))) (let e : suc (length all + k) ≡ suc (length all) + k = omega arith in e)
 
 -- the stream ends inside a reply
-pub cut_off : (result : Result StreamEnd AllocError) (H M E : Heap) (most served n n' : ℕ) (left ahead ahead' told t t' left' : Option (List ℕ)) (b bytes old : List ℕ) (a : Asked) (reply : List ℕ) (k : ℕ)
+pub cut_off : (result : Result StreamEnd AllocError) (H M E : Heap) (most served n n' : ℕ) (left ahead ahead' told t t' left' : Option (List ℕ)) (b bytes old : List ℕ) (a : Asked) (reply : Reply) (k : ℕ)
     → Progress H M served n left ahead told t → IsRequest b a → ahead ≡ before b ahead' → PlainStep M a [] [] reply E → n' ≡ n + 1
     → t' ≡ after t (take k (reply_bytes reply))
     → ((rest : List ℕ) → EndsAs result most n' rest left') → Stands result E E → ((written all : List ℕ) → IsFront written all → Writes result written all)

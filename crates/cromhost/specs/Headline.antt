@@ -1,16 +1,19 @@
 -- What `run` says.
-use Rattle.std.specs.Prelude.{◌≡◌, ◌⊎◌, ◌≤◌, ℕ, List, [], length, Option, Result, Ok, Err}
+use Rattle.std.specs.Prelude.{◌≡◌, ◌⊎◌, ◌≤◌, ℕ, List, [], length, Option, Result, Ok, Err, ⊤}
 use Rattle.std.specs.declared.alloc.AllocError.{AllocError}
 use Rattle.page_units.specs.Outside.{Rose}
 use Rattle.cell_places.specs.Heap.{Heap}
-use Rattle.page_reader.specs.Page.{IsNoPage}
+use Rattle.page_reader.specs.declared.fault.PageFault.{PageFault}
+use Rattle.page_reader.specs.declared.fault.PageFault.TheVariants as page
+use Rattle.page_reader.specs.Page.{IsPageFault}
 use Rattle.cromhost.specs.declared.wire.Asked.{Asked}
 use Rattle.cromhost.specs.declared.status.Status.{Status}
-use Rattle.cromhost.specs.declared.status.Status.TheVariants.{Ended, Usage, NotBuilt, ReadFault, WriteFault, NoMemory, ShelfFault, RequestBound}
+use Rattle.cromhost.specs.declared.status.Status.TheVariants.{Ended, Usage, Page, NotBuilt, ReadFault, WriteFault, NoMemory, ShelfFault, RequestBound}
 use Rattle.cromhost.specs.declared.stream.StreamEnd.{StreamEnd}
 use Rattle.cromhost.specs.declared.stream.StreamEnd.TheVariants as end
 use Rattle.cromhost.specs.Requests.{Requests}
 use Rattle.cromhost.specs.Plain.{Loads}
+use Rattle.cromhost.specs.Loading.{IsScripted}
 use Rattle.cromhost.specs.Stream.{Streamed}
 
 -- how many requests are answered in a run, at the most
@@ -26,6 +29,11 @@ status_of (Ok end.ReadFault) = ReadFault
 status_of (Ok end.WriteFault) = WriteFault
 status_of (Err e) = NoMemory
 
+-- the status of a run whose page wasn't read
+abbrev pub status_of_fault : PageFault → Status
+status_of_fault (page.Rule number at) = Page (page.Rule number at)
+status_of_fault page.NoMemory = NoMemory
+
 -- the page was loaded, and its host served the stream
 pub record Served (result : Result StreamEnd AllocError) (page bytes written : List ℕ) (left : Option (List ℕ)) : Type 0 where
   pub start : Heap
@@ -38,12 +46,21 @@ pub record Served (result : Result StreamEnd AllocError) (page bytes written : L
 abbrev pub Headline : Status → (page bytes written : List ℕ) → (left : Option (List ℕ)) → Type 0
 Headline Usage page bytes written left = ⊥
 Headline ShelfFault page bytes written left = written ≡ []
-Headline NotBuilt page bytes written left = (IsNoPage page × (written ≡ [])) ⊎ Served (Ok end.Misfit) page bytes written left
+Headline (Page (page.Rule number at)) page bytes written left = IsPageFault page number at × (written ≡ [])
+Headline (Page page.NoMemory) page bytes written left = ⊥
+Headline NotBuilt page bytes written left = (IsScripted page × (written ≡ [])) ⊎ Served (Ok end.Misfit) page bytes written left
 Headline NoMemory page bytes written left = (written ≡ []) ⊎ ((e : AllocError) × Served (Err e) page bytes written left)
 Headline Ended page bytes written left = Served (Ok end.End) page bytes written left
 Headline RequestBound page bytes written left = Served (Ok end.RequestBound) page bytes written left
 Headline ReadFault page bytes written left = Served (Ok end.ReadFault) page bytes written left
 Headline WriteFault page bytes written left = Served (Ok end.WriteFault) page bytes written left
+
+-- the run ended with this fault of the page, or before the page was read
+abbrev pub IsRefused : Status → (number at : ℕ) → Type 0
+IsRefused (Page (page.Rule n a)) number at = (n ≡ number) × (a ≡ at)
+IsRefused ShelfFault number at = ⊤
+IsRefused NoMemory number at = ⊤
+IsRefused _ number at = ⊥
 
 -- no count rose
 abbrev pub Calm : (shelf shelf' input input' output output' : ℕ) → Type 0
@@ -53,6 +70,7 @@ Calm shelf shelf' input input' output output' = (shelf' ≡ shelf) × (input' �
 abbrev pub Causes : Status → (shelf shelf' input input' output output' : ℕ) → Type 0
 Causes Ended shelf shelf' input input' output output' = Calm shelf shelf' input input' output output'
 Causes Usage shelf shelf' input input' output output' = Calm shelf shelf' input input' output output'
+Causes (Page fault) shelf shelf' input input' output output' = Calm shelf shelf' input input' output output'
 Causes NotBuilt shelf shelf' input input' output output' = Calm shelf shelf' input input' output output'
 Causes RequestBound shelf shelf' input input' output output' = Calm shelf shelf' input input' output output'
 Causes NoMemory shelf shelf' input input' output output' = Calm shelf shelf' input input' output output'
@@ -60,7 +78,7 @@ Causes ShelfFault shelf shelf' input input' output output' = Rose shelf shelf' �
 Causes ReadFault shelf shelf' input input' output output' = (shelf' ≡ shelf) × Rose input input' × (output' ≡ output)
 Causes WriteFault shelf shelf' input input' output output' = (shelf' ≡ shelf) × (input' ≡ input) × Rose output output'
 
--- a page that is read, and an input of whole requests within the bound
+-- a page that is read and has no script, and an input of whole requests within the bound
 pub record IsWhole (page bytes : List ℕ) : Type 0 where
   pub heap : Heap
   pub loads : Loads page heap

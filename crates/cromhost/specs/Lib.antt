@@ -1,7 +1,7 @@
 pub mod Words
 pub mod Requests
+pub mod Loading
 pub mod Plain
-pub mod Ready
 pub mod Replies
 pub mod Stream
 pub mod Headline

@@ -11,7 +11,7 @@ use Rattle.cromhost.specs.declared.stream.StreamEnd.{StreamEnd}
 use Rattle.cromhost.specs.declared.stream.StreamEnd.TheVariants.{End, Misfit, RequestBound, ReadFault, WriteFault}
 use Rattle.cromhost.specs.Requests.{IsRequest, Requests, BeginsRequest, IsPartial, IsMisfit}
 use Rattle.cromhost.specs.Plain.{PlainRun}
-use Rattle.cromhost.specs.Replies.{reply_bytes}
+use Rattle.cromhost.specs.Replies.{Reply, reply_bytes}
 
 -- ---- the reader of requests; what is ahead are the bytes that it holds, and then what is left of the source
 
@@ -69,7 +69,7 @@ Stands (Err e) H last = Unit {0}
 -- answered, the one whose reply couldn't be written whole included.
 pub record Streamed (result : Result StreamEnd AllocError) (H H' : Heap) (most served served' : ℕ) (bytes written : List ℕ) (left : Option (List ℕ)) : Type 0 where
   pub asked : List Asked
-  pub replies : List (List ℕ)
+  pub replies : List Reply
   pub read : List ℕ
   pub rest : List ℕ
   pub splits : bytes ≡ read ++ rest
@@ -93,7 +93,7 @@ StreamCauses (Err e) source source' sink sink' = (source' ≡ source) × (sink' 
 -- what was done so far, between two requests
 pub record Progress (H H' : Heap) (served served' : ℕ) (left ahead told told' : Option (List ℕ)) : Type 0 where
   pub asked : List Asked
-  pub replies : List (List ℕ)
+  pub replies : List Reply
   pub read : List ℕ
   pub whole : Requests read asked
   pub run : PlainRun H asked [] [] replies H'

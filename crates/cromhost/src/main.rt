@@ -34,8 +34,8 @@ fn main(rt: HostRuntime) -> ExitCode {
         },
         Err(_) => Status::Usage,
     };
-    if let Some(line) = status.line() {
-        let _ = rt.eprintln(line);
+    if status != Status::Ended {
+        let _ = rt.eprintln(status);
     }
     ExitCode::from(status.number())
 }

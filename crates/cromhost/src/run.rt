@@ -3,13 +3,15 @@ ghost use Rattle.std.specs.Prelude.{◌≡◌, ◌↔◌, ◌⊎◌, ℕ, ◌++�
 ghost use Rattle.std.specs.String.{string_bytes};
 ghost use Rattle.page_units.specs.Outside.{Rose};
 ghost use Rattle.cromhost.specs.Words.{page_word};
-ghost use Rattle.cromhost.specs.Headline.{Headline, Causes, IsWhole};
+ghost use Rattle.page_reader.specs.Page.{IsPageFault};
+ghost use Rattle.cromhost.specs.Headline.{Headline, Causes, IsRefused, IsWhole};
 ghost use Rattle.cromhost.specs.Headline as spec;
 
-use crate::host::load;
+use crate::host::{Loaded, load};
 use crate::status::Status;
 use crate::stream::{StreamEnd, serve_stream};
 use crate::words::page_name;
+use page_reader::PageFault;
 use page_units::{FETCHED_BYTES, Fetched, NoMemory, Shelf, Sink, Source};
 use std::alloc::Global;
 
@@ -30,28 +32,14 @@ pub fn run<F: Shelf, S: Source, W: Sink>(
     ensures headline { (name page bytes old : List ℕ) → page_word (map string_bytes words.now.items) ≡ Some name
         → F.file shelf.old name ≡ Some page → S.left input.old ≡ Some bytes → W.told output.old ≡ Some old
         → (written : List ℕ) × (W.told output.new ≡ Some (old ++ written)) × Headline result (take FETCHED_BYTES page) bytes written (S.left input.new) }
+    // A page that breaks a rule is refused with it.
+    ensures refused { (name page : List ℕ) → page_word (map string_bytes words.now.items) ≡ Some name → F.file shelf.old name ≡ Some page
+        → (number at : ℕ) → IsPageFault (take FETCHED_BYTES page) number at → IsRefused result number at }
     // A page that is read and whole requests within the bound are answered whole, where no count rises.
     ensures complete { (name page bytes old : List ℕ) → page_word (map string_bytes words.now.items) ≡ Some name
         → F.file shelf.old name ≡ Some page → S.left input.old ≡ Some bytes → W.told output.old ≡ Some old → IsWhole (take FETCHED_BYTES page) bytes
         → ¬ Rose (F.faults shelf.old) (F.faults shelf.new) → ¬ Rose (S.faults input.old) (S.faults input.new) → ¬ Rose (W.faults output.old) (W.faults output.new)
         → (result ≡ Status.Ended) ⊎ (result ≡ Status.NoMemory) }
-{
-    run_words(alloc, words, shelf, input, output)
-}
-
-/// The same, without what follows from the rest.
-fn run_words<F: Shelf, S: Source, W: Sink>(
-    alloc: Global,
-    words: &Vec<String>,
-    shelf: &mut F,
-    input: &mut S,
-    output: &mut W,
-) -> Status
-    ensures usage { (result ≡ Status.Usage) ↔ (page_word (map string_bytes words.now.items) ≡ None) }
-    ensures causes { Causes result (F.faults shelf.old) (F.faults shelf.new) (S.faults input.old) (S.faults input.new) (W.faults output.old) (W.faults output.new) }
-    ensures headline { (name page bytes old : List ℕ) → page_word (map string_bytes words.now.items) ≡ Some name
-        → F.file shelf.old name ≡ Some page → S.left input.old ≡ Some bytes → W.told output.old ≡ Some old
-        → (written : List ℕ) × (W.told output.new ≡ Some (old ++ written)) × Headline result (take FETCHED_BYTES page) bytes written (S.left input.new) }
 {
     let name = match page_name(words) {
         Some(name) => name,
@@ -63,9 +51,9 @@ fn run_words<F: Shelf, S: Source, W: Sink>(
         Err(_) => return Status::NoMemory,
     };
     let mut base = match load(alloc, page.as_slice()) {
-        Ok(Some(base)) => base,
-        Ok(None) => return Status::NotBuilt,
-        Err(_) => return Status::NoMemory,
+        Ok(Loaded::Ready(base)) => base,
+        Ok(Loaded::HasScripts) => return Status::NotBuilt,
+        Err(fault) => return status_of_fault(fault),
     };
     let mut served = 0;
     status_of(serve_stream(
@@ -76,6 +64,16 @@ fn run_words<F: Shelf, S: Source, W: Sink>(
         input,
         output,
     ))
+}
+
+/// The status of a run whose page wasn't read.
+fn status_of_fault(fault: PageFault) -> Status
+    ensures { result ≡ spec.status_of_fault fault }
+{
+    match fault {
+        PageFault::Rule(_, _) => Status::Page(fault),
+        PageFault::NoMemory => Status::NoMemory,
+    }
 }
 
 /// The status of a run whose stream ended so.

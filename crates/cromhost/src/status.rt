@@ -1,7 +1,9 @@
 //! How a run ended.
-ghost use Rattle.std.specs.Prelude.{◌≡◌};
-ghost use Rattle.std.specs.Option.{option_copied};
+ghost use Rattle.std.specs.Prelude.{◌≡◌, Some};
 ghost use Rattle.cromhost.specs.Statuses.{status_number, status_line};
+
+use page_reader::PageFault;
+use std::fmt;
 
 /// How a run ended, with the number that the program ends with and the line that it prints to
 /// standard error.
@@ -11,6 +13,8 @@ pub enum Status {
     Ended,
     /// The words aren't `stdio PAGE`.
     Usage,
+    /// The page's bytes are no page: the number of the rule that they break, and the byte at which.
+    Page(PageFault),
     /// Reading the input failed.
     ReadFault,
     /// Writing the output failed.
@@ -21,7 +25,7 @@ pub enum Status {
     ShelfFault,
     /// As many requests were answered as a run answers at the most, and one more was read whole.
     RequestBound,
-    /// The page or the input isn't of the form that is built so far.
+    /// The page has a script, or the input isn't of the form that is built so far.
     NotBuilt,
 }
 
@@ -33,6 +37,7 @@ impl Status {
         match self {
             Status::Ended => 0,
             Status::Usage => 2,
+            Status::Page(_) => 3,
             Status::ReadFault => 4,
             Status::WriteFault => 5,
             Status::NoMemory => 6,
@@ -41,20 +46,27 @@ impl Status {
             Status::NotBuilt => 11,
         }
     }
+}
 
-    /// The line for standard error, without its line feed; None where nothing is said.
-    pub fn line(self) -> Option<&'static str>
-        ensures { option_copied result ≡ status_line self }
-    {
+/// The line for standard error, without its line feed; nothing where the work came to its end.
+impl fmt::Display for Status {
+    ghost output = { λ status. Some (status_line status) };
+
+    fn fmt<W: fmt::Write>(&self, f: &mut fmt::Formatter<W>) -> fmt::Result {
         match self {
-            Status::Ended => None,
-            Status::Usage => Some("cromhost: usage"),
-            Status::ReadFault => Some("cromhost: read fault"),
-            Status::WriteFault => Some("cromhost: write fault"),
-            Status::NoMemory => Some("cromhost: no memory"),
-            Status::ShelfFault => Some("cromhost: page not read"),
-            Status::RequestBound => Some("cromhost: request bound"),
-            Status::NotBuilt => Some("cromhost: not built"),
+            Status::Ended => Ok(()),
+            Status::Usage => f.write_str("cromhost: usage"),
+            Status::Page(PageFault::Rule(rule, at)) => {
+                write!(f, "cromhost: page rule {rule} at {at}")
+            }
+            Status::ReadFault => f.write_str("cromhost: read fault"),
+            Status::WriteFault => f.write_str("cromhost: write fault"),
+            Status::NoMemory | Status::Page(PageFault::NoMemory) => {
+                f.write_str("cromhost: no memory")
+            }
+            Status::ShelfFault => f.write_str("cromhost: page not read"),
+            Status::RequestBound => f.write_str("cromhost: request bound"),
+            Status::NotBuilt => f.write_str("cromhost: not built"),
         }
     }
 }

@@ -1,7 +1,7 @@
 //! A stream of requests, each answered.
 ghost use Rattle.std.specs.Prelude.{◌≡◌, ◌≤◌, ℕ, ◌++◌, List, Some};
 ghost use Rattle.cell_heap.specs.Base.{heap_of};
-ghost use Rattle.cromhost.specs.Ready.{IsReady};
+ghost use Rattle.cell_places.specs.Sound.{IsSound};
 ghost use Rattle.cromhost.specs.Stream.{Streamed, StreamCauses};
 
 use crate::host::answer;
@@ -35,7 +35,7 @@ pub fn serve_stream<S: Source, W: Sink>(
     source: &mut S,
     sink: &mut W,
 ) -> Result<StreamEnd, NoMemory>
-    requires ready { IsReady (heap_of base.old) }
+    requires sound { IsSound 0 (heap_of base.old) }
     requires bound { served.old ≤ most }
     ensures causes { StreamCauses result (S.faults source.old) (S.faults source.new) (W.faults sink.old) (W.faults sink.new) }
     ensures stream { (bytes old : List ℕ) → S.left source.old ≡ Some bytes → W.told sink.old ≡ Some old →

@@ -1,6 +1,7 @@
 //! Whole runs over objects in memory.
 use crate::run::run;
 use crate::status::Status;
+use page_reader::PageFault;
 use page_units::{MemoryShelf, MemorySink, MemorySource, NoMemory, SureSink, SureSource};
 use std::alloc::Global;
 use std::collections::BTreeMap;
@@ -109,33 +110,126 @@ fn refuses_words(rt: HostRuntime) -> Result<(), Fail> {
     Ok(())
 }
 
-// Pages that aren't of the form so far, and after which nothing is written.
+/// The tree text of the document of a page, as `/dom` replies it.
+fn served(alloc: Global, page: &[u8]) -> Result<Vec<u8>, NoMemory> {
+    let (status, output) = ran(alloc, &["stdio", "p"], page, DOM, SURE)?;
+    let mut lines = Vec::from_slice(alloc, format!(in alloc; "{status}|")?.as_bytes())?;
+    let mut head = true;
+    let mut feeds = 0;
+    for byte in output.as_slice() {
+        if !head {
+            lines.push(*byte)?;
+        } else if *byte == b'\n' {
+            feeds += 1;
+            head = feeds < 4;
+        }
+    }
+    Ok(lines)
+}
+
+// Pages and the tree texts that `/dom` replies.
 #[test]
-fn reads_no_other_page(rt: HostRuntime) -> Result<(), Fail> {
+fn serves_whole_pages(rt: HostRuntime) -> Result<(), Fail> {
+    for (page, text) in [
+        (
+            "<html><A href='x\"y'>1 &lt; 2</a><!-- c --></html>",
+            "|<html><a href=\"x&quot;y\">1 &lt; 2</a></html>",
+        ),
+        ("<html><br></html>", "|<html><br></html>"),
+        (
+            "<!doctype HTML>\n<a x b=\"&amp;\"/></a>",
+            "cromhost: page rule 3 at 16|",
+        ),
+        (
+            "<!doctype HTML>\n<A x b=\"&amp;\">&#65;</a >\n",
+            "|<a x=\"\" b=\"&amp;\">A</a>",
+        ),
+        ("<style>a > b</STYLE>", "|<style>a > b</style>"),
+        ("<p>a > b</p>", "|<p>a &gt; b</p>"),
+    ] {
+        assert!(rt;
+            served(rt.alloc(), page.as_bytes())?.as_slice() == text.as_bytes(),
+            "{page}"
+        );
+    }
+    Ok(())
+}
+
+// What is no page is told with the rule and the place, and nothing is written.
+#[test]
+fn refuses_what_is_no_page(rt: HostRuntime) -> Result<(), Fail> {
     let alloc = rt.alloc();
-    for page in [
-        "",
-        "<html></html>\n",
-        "<html><br></html>",
-        "<br></br>",
-        "<script></script>",
-        "<a></b>",
-        "<a ></a>",
-        "<></>",
-        "<a>&amp;</a>",
+    for (page, rule, at) in [
+        ("<html><b><i>x</b></i></html>", 7, 13),
+        ("<a x=1></a>", 4, 3),
+        ("<a x='1' X='2'>", 10, 9),
+        ("<a>&#0;</a>", 5, 3),
+        ("<a><!--", 6, 3),
+        ("<!DOCTYPE html><!DOCTYPE html>", 3, 15),
+        ("", 8, 0),
     ] {
         let (status, output) = ran(alloc, &["stdio", "p"], page.as_bytes(), DOM, SURE)?;
-        assert_eq!(rt; status, Status::NotBuilt, "{page}");
+        assert_eq!(rt; status, Status::Page(PageFault::Rule(rule, at)), "{page}");
         assert!(rt; output.is_empty());
     }
+    Ok(())
+}
+
+// 128 levels are served, and a 129th start tag is refused.
+#[test]
+fn serves_128_levels(rt: HostRuntime) -> Result<(), Fail> {
+    let alloc = rt.alloc();
     let deepest = nested(alloc, 128)?;
     let (status, output) = ran(alloc, &["stdio", "p"], &deepest, DOM, SURE)?;
     assert_eq!(rt; status, Status::Ended);
     assert!(rt; output.ends_with(&deepest));
     let deeper = nested(alloc, 129)?;
     let (status, output) = ran(alloc, &["stdio", "p"], &deeper, DOM, SURE)?;
+    assert_eq!(rt; status, Status::Page(PageFault::Rule(9, 384)));
+    assert!(rt; output.is_empty());
+    Ok(())
+}
+
+// A page with a script isn't served yet, also where the script is empty.
+#[test]
+fn serves_no_scripts_yet(rt: HostRuntime) -> Result<(), Fail> {
+    let alloc = rt.alloc();
+    let page = b"<a><script></script></a>".as_slice();
+    let (status, output) = ran(alloc, &["stdio", "p"], page, DOM, SURE)?;
     assert_eq!(rt; status, Status::NotBuilt);
     assert!(rt; output.is_empty());
+    Ok(())
+}
+
+// A page of at most 1,048,576 bytes is read; a tree text of more is told to be too long.
+#[test]
+fn tells_a_long_text(rt: HostRuntime) -> Result<(), Fail> {
+    let alloc = rt.alloc();
+    let mut page = Vec::from_slice(alloc, b"<a>")?;
+    page.extend_from_slice(vec![in alloc; b'>'; 300_000]?.as_slice())?;
+    page.extend_from_slice(b"</a>")?;
+    let (status, output) = ran(alloc, &["stdio", "p"], &page, DOM, SURE)?;
+    assert_eq!(rt; status, Status::Ended);
+    let reply =
+        b"HTTP/1.1 500 Internal Server Error\r\nContent-Type: application/json\r\nContent-Length: 24\r\n\r\n{\"outcome\":\"bound text\"}".as_slice();
+    assert_eq!(rt; output.as_slice(), reply);
+    Ok(())
+}
+
+// The lines of the statuses.
+#[test]
+fn prints_statuses(rt: HostRuntime) -> Result<(), Fail> {
+    for (status, line) in [
+        (Status::Ended, ""),
+        (Status::Usage, "cromhost: usage"),
+        (
+            Status::Page(PageFault::Rule(7, 13)),
+            "cromhost: page rule 7 at 13",
+        ),
+        (Status::NotBuilt, "cromhost: not built"),
+    ] {
+        assert_eq!(rt; status.to_string(rt.alloc())?.as_str(), line);
+    }
     Ok(())
 }
 

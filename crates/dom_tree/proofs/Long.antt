@@ -1,5 +1,5 @@
 -- A text in UTF-8 has no fewer bytes than the text has units.
-use Rattle.std.proofs.Common.{◌≡◌, ℕ, ◌+◌, ◌≤◌, length, List, [], ◌∷◌, Bool, true, false, cond, ◌&&◌, ◌==◌, Option, Some, map, refl, sym, subst, arith, length-append, codes, nat_lt, if◌then◌else◌}
+use Rattle.std.proofs.Common.{◌≡◌, ℕ, ◌+◌, ◌++◌, ◌≤◌, length, List, [], ◌∷◌, Bool, true, false, cond, ◌&&◌, ◌==◌, Option, Some, map, refl, sym, subst, arith, length-append, codes, nat_lt, if◌then◌else◌}
 use Rattle.std.specs.List.{flat_map}
 use Rattle.std.specs.Option.{unwrap_or}
 use Rattle.std.specs.Char.Utf16.{utf16_chars, lone_unit_char, surrogate_pair_char, is_high_surrogate, is_low_surrogate}
@@ -7,7 +7,8 @@ use Rattle.std.proofs.Math.Utf8.{encode, encodes}
 use Rattle.std.proofs.lemmas.Bool.{ltb-true}
 use Rattle.std.proofs.lemmas.Str.{length-encode, len_utf8_bounds}
 use Rattle.page_units.specs.Coding.{utf8_of_units}
-use Rattle.dom_tree.specs.TreeText.{escape_text}
+use Rattle.dom_tree.specs.Trees.{Attribute}
+use Rattle.dom_tree.specs.TreeText.{escape_text, escape_value, attribute_text}
 
 -- the bytes of characters, U+FFFD for each that is none
 abbrev bytes_of : List (Option ℕ) → List ℕ
@@ -70,3 +71,40 @@ written_long false us = escaped_long us
 
 pub text_long : (raw : Bool) (us : List ℕ) → length us ≤ length (utf8_of_units (cond raw us (flat_map escape_text us)))
 text_long raw us = omega (arith, written_long raw us, units_long (cond raw us (flat_map escape_text us)))
+
+-- ---- attributes
+
+one_of : (b : Bool) (us : List ℕ) → 1 ≤ length us → 1 ≤ length (cond b (codes "&quot;") us)
+one_of true us h = omega arith
+one_of false us h = h
+
+value_long : (us : List ℕ) → length us ≤ length (flat_map escape_value us)
+value_long [] = omega arith
+value_long (u ∷ us) =
+    omega (
+      arith,
+      value_long us,
+      one_of (u == 34) (escape_text u) (one_by (u == 38) (u == 60) (u == 62) u),
+      length-append (escape_value u) (flat_map escape_value us),
+    )
+
+-- what an attribute's text is made of
+attribute_length : (a : Attribute) → length (utf8_of_units a.0) + length (utf8_of_units (flat_map escape_value a.1)) ≤ length (attribute_text a)
+attribute_length a =
+    let name = utf8_of_units a.0 in
+    let value = utf8_of_units (flat_map escape_value a.1) in
+    omega (
+      arith,
+      length-append (codes " ") (name ++ (codes "=\"" ++ (value ++ codes "\""))),
+      length-append name (codes "=\"" ++ (value ++ codes "\"")),
+      length-append (codes "=\"") (value ++ codes "\""),
+      length-append value (codes "\""),
+    )
+
+-- an attribute's text has no fewer bytes than its name has units
+pub attribute_name_long : (a : Attribute) → length a.0 ≤ length (attribute_text a)
+attribute_name_long a = omega (arith, attribute_length a, units_long a.0)
+
+-- nor than its value has
+pub attribute_value_long : (a : Attribute) → length a.1 ≤ length (attribute_text a)
+attribute_value_long a = omega (arith, attribute_length a, value_long a.1, units_long (flat_map escape_value a.1))

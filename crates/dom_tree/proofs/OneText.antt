@@ -1,5 +1,5 @@
 -- A node has one tree text at most.
-use Rattle.std.proofs.Common.{◌≡◌, ℕ, false, List, [], refl, ap, sym, ◌∙◌}
+use Rattle.std.proofs.Common.{◌≡◌, ℕ, ◌<◌, ◌≤◌, length, Bool, true, false, List, [], refl, ap, sym, ◌∙◌, subst}
 use Rattle.page_units.specs.declared.value.CellName.{CellName}
 use Rattle.cell_places.specs.declared.kind.CellKind.{CellKind}
 use Rattle.cell_places.specs.declared.kind.CellKind.TheVariants as kind
@@ -8,8 +8,9 @@ use Rattle.cell_places.specs.Heap.{Heap, place, text_in}
 use Rattle.dom_tree.specs.Trees.{Trees}
 use Rattle.dom_tree.specs.Trees as t
 use Rattle.dom_tree.specs.TreeText.{trees_text}
+use Rattle.dom_tree.specs.Appends.{Appended}
 use Rattle.dom_tree.specs.Holds as holds
-use Rattle.dom_tree.specs.Holds.{Holds, IsTreeText, attributes_at}
+use Rattle.dom_tree.specs.Holds.{Holds, served, IsTreeText, attributes_at}
 
 -- the name of an element
 name_of : CellKind → List ℕ
@@ -34,3 +35,17 @@ trees_alike H _ _ _ (holds.element n name cells children more k below rest) (hol
 
 pub one_text : (H : Heap) (n : CellName) (one other : List ℕ) → IsTreeText H n one → IsTreeText H n other → one ≡ other
 one_text H n one other is also = is.text ∙ ap (trees_text false) (trees_alike H _ is.trees also.trees is.holds also.holds) ∙ sym also.text
+
+-- ---- a node's text, found whole or too long
+
+pub whole_found : (H : Heap) (n : CellName) (most : ℕ) (is : Bool) (old new : List ℕ) (held : (trees : Trees) × Holds H (served H n) trees) → old ≡ [] → is ≡ true → Appended is most old new (trees_text false held.0)
+    → IsTreeText H n new × (length new ≤ most)
+whole_found H n most is old new held e f a =
+    let all : Appended true most [] new (trees_text false held.0) = subst (λ b. Appended b most [] new (trees_text false held.0)) f (subst (λ (xs : List ℕ). Appended is most xs new (trees_text false held.0)) e a) in
+    (record { trees = held.0; holds = held.1; text = all.0 }, all.1)
+
+pub too_long_found : (H : Heap) (n : CellName) (most : ℕ) (is : Bool) (old new : List ℕ) (held : (trees : Trees) × Holds H (served H n) trees) → old ≡ [] → is ≡ false → Appended is most old new (trees_text false held.0)
+    → (bytes : List ℕ) × IsTreeText H n bytes × (most < length bytes)
+too_long_found H n most is old new held e f a =
+    let long : Appended false most [] new (trees_text false held.0) = subst (λ b. Appended b most [] new (trees_text false held.0)) f (subst (λ (xs : List ℕ). Appended is most xs new (trees_text false held.0)) e a) in
+    (trees_text false held.0, record { trees = held.0; holds = held.1; text = refl }, long)

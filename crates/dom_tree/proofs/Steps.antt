@@ -8,17 +8,14 @@ use Rattle.page_units.specs.Coding.{utf8_of_units}
 use Rattle.cell_places.specs.declared.place.Slot.TheVariants as s
 use Rattle.cell_places.specs.Heap.{Heap, place, text_in}
 use Rattle.dom_tree.specs.Names.{is_void, is_raw}
-use Rattle.dom_tree.specs.Trees.{Trees, HaveNoAttributes}
+use Rattle.dom_tree.specs.Trees.{Trees}
 use Rattle.dom_tree.specs.Trees as t
 use Rattle.dom_tree.specs.TreeText.{trees_text, start_tag, end_tag, escape_text, is_none}
 use Rattle.dom_tree.specs.Appends.{Appended}
 use Rattle.dom_tree.specs.Holds as holds
 use Rattle.dom_tree.specs.Holds.{Holds, attributes_at}
 use Rattle.dom_tree.proofs.OneText.{trees_alike}
-
--- the cells hold trees without attributes
-abbrev pub Form : Heap → List CellName → Type 0
-Form H cells = (trees : Trees) × Holds H cells trees × HaveNoAttributes trees
+use Rattle.dom_tree.proofs.SoundTrees.{Form}
 
 -- their text was appended
 abbrev pub Says : Heap → List CellName → Bool → Bool → ℕ → List ℕ → List ℕ → Type 0
@@ -31,8 +28,6 @@ pub record Parts (H : Heap) (raw : Bool) (n : CellName) (cells : List CellName) 
   pub more : Trees
   pub first : Holds H (n ∷ []) one
   pub rest : Holds H cells more
-  pub plain : HaveNoAttributes one
-  pub others : HaveNoAttributes more
   pub text : trees_text raw trees ≡ trees_text raw one ++ trees_text raw more
 
 -- the end of one text node's text is the start of the next
@@ -44,23 +39,19 @@ join_element : (s m y : List ℕ) → s ++ (m ++ y) ≡ (s ++ (m ++ [])) ++ y
 join_element s m y = ap (λ (z : List ℕ). s ++ (z ++ y)) (sym (append-nil m)) ∙ sym (append_assoc s (m ++ []) y)
 
 -- the first sibling and the others, each with its text
-pub parts : (H : Heap) (raw : Bool) (n : CellName) (cells : List CellName) (trees : Trees) → Holds H (n ∷ cells) trees → HaveNoAttributes trees → Parts H raw n cells trees
-parts H raw _ _ _ (holds.text n cells more k rest) plain = record {
+pub parts : (H : Heap) (raw : Bool) (n : CellName) (cells : List CellName) (trees : Trees) → Holds H (n ∷ cells) trees → Parts H raw n cells trees
+parts H raw _ _ _ (holds.text n cells more k rest) = record {
   one = t.text (text_in (H.at (place n s.Chars))) t.none;
   more = more;
   first = holds.text n [] t.none k holds.none;
   rest = rest;
-  plain = tt;
-  others = plain;
   text = let units = text_in (H.at (place n s.Chars)) in join_text (cond raw (utf8_of_units units) (utf8_of_units (flat_map escape_text units))) (trees_text raw more);
 }
-parts H raw _ _ _ (holds.element n name cells children more k below rest) plain = record {
+parts H raw _ _ _ (holds.element n name cells children more k below rest) = record {
   one = t.element name (attributes_at H n) children t.none;
   more = more;
   first = holds.element n name [] children t.none k below holds.none;
   rest = rest;
-  plain = (plain.0, plain.1, tt);
-  others = plain.2;
   text = join_element (start_tag name (attributes_at H n)) (cond (is_void name && is_none children) [] (trees_text (is_raw name) children ++ end_tag name)) (trees_text raw more);
 }
 
@@ -70,7 +61,6 @@ parts H raw _ _ _ (holds.element n name cells children more k below rest) plain 
 pub record Progress (H : Heap) (nodes : List CellName) (raw : Bool) (most count : ℕ) (old new : List ℕ) : Type 0 where
   pub rest : Trees
   pub holds : Holds H (drop count nodes) rest
-  pub plain : HaveNoAttributes rest
   pub grown : length old ≤ length new
   pub fits : length new ≤ most
   pub text : (trees : Trees) → Holds H nodes trees → new ++ trees_text raw rest ≡ old ++ trees_text raw trees
@@ -80,7 +70,6 @@ pub start : (H : Heap) (nodes : List CellName) (raw : Bool) (most : ℕ) (old : 
 start H nodes raw most old form fits = record {
   rest = form.0;
   holds = form.1;
-  plain = form.2;
   grown = omega arith;
   fits = fits;
   text = λ trees h. ap (λ z. old ++ trees_text raw z) (trees_alike H nodes form.0 trees form.1 h);
@@ -90,13 +79,13 @@ start H nodes raw most old form fits = record {
 pub next_parts : (H : Heap) (nodes : List CellName) (raw : Bool) (most count : ℕ) (old new : List ℕ) (d : CellName) → count < length nodes → (p : Progress H nodes raw most count old new)
     → Parts H raw (get_or nodes count d) (drop (count + 1) nodes) p.rest
 next_parts H nodes raw most count old new d below p =
-    parts H raw (get_or nodes count d) (drop (count + 1) nodes) p.rest (subst (λ cells. Holds H cells p.rest) (drop_more nodes count d below) p.holds) p.plain
+    parts H raw (get_or nodes count d) (drop (count + 1) nodes) p.rest (subst (λ cells. Holds H cells p.rest) (drop_more nodes count d below) p.holds)
 
 -- the next node is held as well
 pub next_form : (H : Heap) (nodes : List CellName) (raw : Bool) (most count : ℕ) (old new : List ℕ) (d : CellName) → count < length nodes → Progress H nodes raw most count old new
     → Form H (get_or nodes count d ∷ [])
 next_form H nodes raw most count old new d below p =
-    let q = next_parts H nodes raw most count old new d below p in (q.one, q.first, q.plain)
+    let q = next_parts H nodes raw most count old new d below p in (q.one, q.first)
 
 -- what was appended to is no longer than what it became
 longer : (a b c : List ℕ) → c ≡ a ++ b → length a ≤ length c
@@ -113,7 +102,6 @@ next_whole H nodes raw most count old new newer d below p says =
     record {
       rest = q.more;
       holds = q.rest;
-      plain = q.others;
       grown = omega arith;
       fits = e.1;
       text = λ trees h.

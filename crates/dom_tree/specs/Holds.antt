@@ -9,9 +9,13 @@ use Rattle.dom_tree.specs.Trees.{Trees, Attribute}
 use Rattle.dom_tree.specs.Trees as t
 use Rattle.dom_tree.specs.TreeText.{trees_text}
 
+-- the attribute of this name
+abbrev pub attribute_at : Heap → CellName → List ℕ → Attribute
+attribute_at H n name = (name, text_in (H.at (place n (s.Attr name))))
+
 -- the attributes of an element, in order of insertion
 abbrev pub attributes_at : Heap → CellName → List Attribute
-attributes_at H n = map (λ (name : List ℕ). (name, text_in (H.at (place n (s.Attr name))))) (names_in (H.at (place n s.AttrNames)))
+attributes_at H n = map (attribute_at H n) (names_in (H.at (place n s.AttrNames)))
 
 -- the heap holds these trees as these cells, which are siblings
 pub data Holds (H : Heap) : List CellName → Trees → Type 0 where

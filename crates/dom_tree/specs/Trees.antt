@@ -1,5 +1,6 @@
 -- Trees of elements and text nodes, as lists of siblings. Names, values and texts are lists of UTF-16 units.
-use Rattle.std.specs.Prelude.{◌≡◌, ℕ, List, []}
+use Rattle.std.specs.Prelude.{ℕ, List, map}
+use Rattle.cell_places.specs.Lists.{Distinct}
 
 -- a name and its value
 abbrev pub Attribute : Type 0
@@ -12,8 +13,9 @@ pub data Trees : Type 0 where
   text : List ℕ → Trees → Trees
   element : List ℕ → List Attribute → Trees → Trees → Trees
 
--- no element has attributes
-abbrev pub HaveNoAttributes : Trees → Type 0
-HaveNoAttributes none = Unit {0}
-HaveNoAttributes (text units more) = HaveNoAttributes more
-HaveNoAttributes (element name attributes children more) = (attributes ≡ []) × HaveNoAttributes children × HaveNoAttributes more
+-- no element has two attributes of one name
+abbrev pub HaveNamesOnce : Trees → Type 0
+HaveNamesOnce none = Unit {0}
+HaveNamesOnce (text units more) = HaveNamesOnce more
+HaveNamesOnce (element name attributes children more) =
+    Distinct (map (λ (a : Attribute). a.0) attributes) × HaveNamesOnce children × HaveNamesOnce more

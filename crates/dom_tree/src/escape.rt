@@ -2,7 +2,7 @@
 ghost use Rattle.std.specs.Prelude.{◌≡◌, ◌++◌, IfOk, OnOk, cond};
 ghost use Rattle.std.specs.List.{flat_map};
 ghost use Rattle.page_units.specs.Coding.{utf8_of_units};
-ghost use Rattle.dom_tree.specs.TreeText.{escape_text};
+ghost use Rattle.dom_tree.specs.TreeText.{escape_text, escape_value};
 
 use page_units::{NoMemory, Text, utf8_of};
 use std::alloc::Global;
@@ -38,6 +38,35 @@ fn push_escaped(written: &mut Vec<u16>, unit: u16) -> Result<(), NoMemory>
         0x3c => push_word(written, b"&lt;"),
         0x3e => push_word(written, b"&gt;"),
         _ => Ok(written.push(unit)?),
+    }
+}
+
+/// An attribute's value as it is written, in UTF-8: with `&`, `<`, `>` and `"` escaped.
+pub fn value_bytes(alloc: Global, units: &[u16]) -> Result<Vec<u8>, NoMemory>
+    ensures { IfOk result (λ bytes. bytes.items ≡ utf8_of_units (flat_map escape_value units.now)) }
+{
+    let written = Text::of_units(value_units(alloc, units)?)?;
+    utf8_of(alloc, &written)
+}
+
+/// The units of a value as they are written.
+fn value_units(alloc: Global, units: &[u16]) -> Result<Vec<u16>, NoMemory>
+    ensures { IfOk result (λ written. written.items ≡ flat_map escape_value units.now) }
+{
+    let mut written = Vec::with_capacity(alloc, units.len())?;
+    for unit in units {
+        push_value(&mut written, *unit)?;
+    }
+    Ok(written)
+}
+
+/// Appends a unit as it is written in a value.
+fn push_value(written: &mut Vec<u16>, unit: u16) -> Result<(), NoMemory>
+    ensures { OnOk result (written.new.items ≡ written.old.items ++ escape_value unit) }
+{
+    match unit {
+        0x22 => push_word(written, b"&quot;"),
+        _ => push_escaped(written, unit),
     }
 }
 

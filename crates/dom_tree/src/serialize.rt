@@ -1,25 +1,28 @@
 //! The text of a node's tree.
-ghost use Rattle.std.specs.Prelude.{◌≡◌, ◌<◌, ◌≤◌, ◌++◌, ℕ, List, [], ◌∷◌, length, IfOk, OnOk, MatchOption, slice_get, Some, false, codes, IsTrue, ◌↔◌, ◌&&◌, ◌==◌};
+ghost use Rattle.std.specs.Prelude.{◌≡◌, ◌<◌, ◌≤◌, ◌++◌, ℕ, List, [], ◌∷◌, length, IfOk, MatchOption, slice_get, Some, true, false, codes, ◌&&◌, ◌==◌};
 ghost use Rattle.page_units.specs.declared.value.CellName.{CellName};
-ghost use Rattle.cell_places.specs.Heap.{cells_in, text_in, place};
+ghost use Rattle.cell_places.specs.Kinds.{is_node};
+ghost use Rattle.cell_places.specs.Heap.{kind_at};
 ghost use Rattle.cell_places.specs.View.{heap};
 ghost use Rattle.cell_places.specs.Rooted.{Still};
 ghost use Rattle.cell_places.specs.Sound.{IsSound};
-ghost use Rattle.cell_places.specs.Valid.{CanAsk};
 ghost use Rattle.dom_tree.specs.Names as spec;
-ghost use Rattle.dom_tree.specs.Trees.{Trees, HaveNoAttributes};
+ghost use Rattle.dom_tree.specs.Trees.{Trees};
 ghost use Rattle.dom_tree.specs.TreeText.{trees_text};
 ghost use Rattle.dom_tree.specs.Appends.{Appended};
 ghost use Rattle.dom_tree.specs.Holds.{Holds, served, IsTreeText};
 
+use crate::answers::{answer_at, cells_of, units_of};
+use crate::append::append;
+use crate::attributes::append_start;
 use crate::escape::text_bytes;
 use crate::names::{is_raw, is_void};
-use cell_places::{Answer, CellKind, Cells, Place, Slot};
-use page_units::{CellName, NoMemory, Text, Value, utf8_of};
+use cell_places::{CellKind, Cells, Slot};
+use page_units::{CellName, NoMemory, Text, utf8_of};
 use std::alloc::Global;
 
-/// The tree text of a node in UTF-8, and None exactly where it has more than `most` bytes. So far
-/// no element of the tree may have attributes. It asks places and changes nothing.
+/// The tree text of a node, which is the document, an element or a text node, in UTF-8, and None
+/// exactly where it has more than `most` bytes. It asks places and changes nothing.
 pub fn dom_text<C: Cells>(
     alloc: Global,
     cells: &mut C,
@@ -27,8 +30,7 @@ pub fn dom_text<C: Cells>(
     most: u64,
 ) -> Result<Option<Vec<u8>>, NoMemory>
     requires sound { (codes : ℕ) × IsSound codes (heap (C.seen cells.old)) }
-    requires there { node.0 < length (heap (C.seen cells.old)).kinds }
-    requires form { (trees : Trees) × Holds (heap (C.seen cells.old)) (served (heap (C.seen cells.old)) node) trees × HaveNoAttributes trees }
+    requires node { is_node (kind_at (heap (C.seen cells.old)) node) ≡ true }
     ensures text { IfOk result (λ found. MatchOption found
         ((bytes : List ℕ) × IsTreeText (heap (C.seen cells.old)) node bytes × (most < length bytes))
         (λ bytes. IsTreeText (heap (C.seen cells.old)) node bytes.items × (length bytes.items ≤ most))) }
@@ -54,7 +56,7 @@ fn append_served<C: Cells>(
     out: &mut Vec<u8>,
 ) -> Result<bool, NoMemory>
     requires there { node.0 < length (heap (C.seen cells.old)).kinds }
-    requires form { (trees : Trees) × Holds (heap (C.seen cells.old)) (served (heap (C.seen cells.old)) node) trees × HaveNoAttributes trees }
+    requires form { (trees : Trees) × Holds (heap (C.seen cells.old)) (served (heap (C.seen cells.old)) node) trees }
     requires fits { length out.old.items ≤ most }
     ensures text { IfOk result (λ whole. (trees : Trees) → Holds (heap (C.seen cells.old)) (served (heap (C.seen cells.old)) node) trees
         → Appended whole most out.old.items out.new.items (trees_text false trees)) }
@@ -79,7 +81,7 @@ fn append_nodes<C: Cells>(
     most: u64,
     out: &mut Vec<u8>,
 ) -> Result<bool, NoMemory>
-    requires form { (trees : Trees) × Holds (heap (C.seen cells.old)) nodes.now trees × HaveNoAttributes trees }
+    requires form { (trees : Trees) × Holds (heap (C.seen cells.old)) nodes.now trees }
     requires fits { length out.old.items ≤ most }
     ensures text { IfOk result (λ whole. (trees : Trees) → Holds (heap (C.seen cells.old)) nodes.now trees
         → Appended whole most out.old.items out.new.items (trees_text raw trees)) }
@@ -103,7 +105,7 @@ fn append_node<C: Cells>(
     most: u64,
     out: &mut Vec<u8>,
 ) -> Result<bool, NoMemory>
-    requires form { (trees : Trees) × Holds (heap (C.seen cells.old)) (node ∷ []) trees × HaveNoAttributes trees }
+    requires form { (trees : Trees) × Holds (heap (C.seen cells.old)) (node ∷ []) trees }
     requires fits { length out.old.items ≤ most }
     ensures text { IfOk result (λ whole. (trees : Trees) → Holds (heap (C.seen cells.old)) (node ∷ []) trees
         → Appended whole most out.old.items out.new.items (trees_text raw trees)) }
@@ -127,27 +129,25 @@ fn append_element<C: Cells>(
     out: &mut Vec<u8>,
 ) -> Result<bool, NoMemory>
     requires kind { slice_get (heap (C.seen cells.old)).kinds node.0 ≡ Some (CellKind.Element name.now) }
-    requires form { (trees : Trees) × Holds (heap (C.seen cells.old)) (node ∷ []) trees × HaveNoAttributes trees }
+    requires form { (trees : Trees) × Holds (heap (C.seen cells.old)) (node ∷ []) trees }
     requires fits { length out.old.items ≤ most }
     ensures text { IfOk result (λ whole. (trees : Trees) → Holds (heap (C.seen cells.old)) (node ∷ []) trees
         → Appended whole most out.old.items out.new.items (trees_text false trees)) }
     ensures still { Still (C.seen cells.old) (C.seen cells.new) }
 {
     let written = utf8_of(alloc, name)?;
-    append_start(&written, out)?;
+    if !append_start(alloc, cells, node, &written, most, out)? {
+        return Ok(false);
+    }
     let answer = answer_at(cells, node, Slot::Children)?;
     let children = cells_of(&answer);
     if is_start_only(name, children) {
-        return Ok(is_within(out, most));
-    }
-    if !is_within(out, most) {
-        return Ok(false);
+        return Ok(true);
     }
     if !append_nodes(alloc, cells, children, is_raw(name), most, out)? {
         return Ok(false);
     }
-    append_end(&written, out)?;
-    Ok(is_within(out, most))
+    append_end(&written, most, out)
 }
 
 /// Appends the text of a text node in the same way.
@@ -172,15 +172,7 @@ fn append_chars<C: Cells>(
         return Ok(false);
     }
     let written = text_bytes(alloc, units, raw)?;
-    out.extend_from_slice(&written)?;
-    Ok(is_within(out, most))
-}
-
-/// Whether there are at most `most` bytes.
-fn is_within(bytes: &[u8], most: u64) -> bool
-    ensures { IsTrue result ↔ length bytes.now ≤ most }
-{
-    bytes.len() as u64 <= most
+    append(&written, most, out)
 }
 
 /// Whether an element of this name and these children ends after its start tag.
@@ -190,51 +182,16 @@ fn is_start_only(name: &Text, children: &[CellName]) -> bool
     is_void(name) && children.is_empty()
 }
 
-/// What stands in a slot of a node. Nothing changes.
-fn answer_at<C: Cells>(cells: &mut C, node: CellName, slot: Slot) -> Result<Answer, NoMemory>
-    requires { CanAsk (heap (C.seen cells.old)) (place node slot) }
-    ensures answer { IfOk result (λ a. a ≡ (heap (C.seen cells.old)).at (place node slot)) }
-    ensures still { Still (C.seen cells.old) (C.seen cells.new) }
+/// Appends the end tag of an element, whose name is given in UTF-8, in the same way.
+fn append_end(name: &[u8], most: u64, out: &mut Vec<u8>) -> Result<bool, NoMemory>
+    requires { length out.old.items ≤ most }
+    ensures { IfOk result (λ whole. Appended whole most out.old.items out.new.items (codes "</" ++ (name.now ++ codes ">"))) }
 {
-    cells.ask(&Place { cell: node, slot })
-}
-
-/// The cells of an answer.
-fn cells_of(answer: &Answer) -> &[CellName]
-    ensures { result.now ≡ cells_in answer.now }
-{
-    match answer {
-        Answer::Cells(cells) => cells.as_slice(),
-        _ => &[],
+    if !append(b"</", most, out)? {
+        return Ok(false);
     }
-}
-
-/// The units of an answer's text.
-fn units_of(answer: &Answer) -> &[u16]
-    ensures { result.now ≡ text_in answer.now }
-{
-    match answer {
-        Answer::One(Value::Str(text)) => text.units(),
-        _ => &[],
+    if !append(name, most, out)? {
+        return Ok(false);
     }
-}
-
-/// `<`, the name and `>`.
-fn append_start(name: &[u8], out: &mut Vec<u8>) -> Result<(), NoMemory>
-    ensures { OnOk result (out.new.items ≡ out.old.items ++ (codes "<" ++ (name.now ++ codes ">"))) }
-{
-    out.push(b'<')?;
-    out.extend_from_slice(name)?;
-    out.push(b'>')?;
-    Ok(())
-}
-
-/// `</`, the name and `>`.
-fn append_end(name: &[u8], out: &mut Vec<u8>) -> Result<(), NoMemory>
-    ensures { OnOk result (out.new.items ≡ out.old.items ++ (codes "</" ++ (name.now ++ codes ">"))) }
-{
-    out.extend_from_slice(b"</")?;
-    out.extend_from_slice(name)?;
-    out.push(b'>')?;
-    Ok(())
+    append(b">", most, out)
 }

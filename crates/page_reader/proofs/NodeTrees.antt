@@ -7,7 +7,7 @@ use Rattle.page_reader.specs.declared.node.Node.TheVariants as n
 use Rattle.page_reader.specs.declared.node.Node.TheVariants.{rolls-Chars, rolls-Element}
 use Rattle.page_reader.specs.declared.node.Node.TheOpen as layer
 use Rattle.page_reader.specs.declared.node.Node.TheFolds.{fold-roll-Node}
-use Rattle.page_reader.specs.NodeTrees.{row, node_step, node_tree}
+use Rattle.page_reader.specs.NodeTrees.{pairs, row, node_step, node_tree}
 
 -- a text
 pub chars_tree : (units : List ℕ) → node_tree (n.Chars units) ≡ (λ more. text units more)
@@ -15,7 +15,7 @@ chars_tree units = ap node_tree (sym (rolls-Chars units)) ∙ fold-roll-Node (Tr
 
 -- an element
 pub element_tree_of : (name : List ℕ) (attributes : List Attribute) (children : List Node)
-    → node_tree (n.Element name attributes children) ≡ (λ more. element name (map (λ (a : Attribute). (a.name, a.value)) attributes) (row (map node_tree children) none) more)
+    → node_tree (n.Element name attributes children) ≡ (λ more. element name (pairs attributes) (row (map node_tree children) none) more)
 element_tree_of name attributes children = ap node_tree (sym (rolls-Element name attributes children)) ∙ fold-roll-Node (Trees → Trees) node_step (layer.Element name attributes children)
 
 -- an element without attributes

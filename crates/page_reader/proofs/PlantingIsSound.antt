@@ -1,5 +1,5 @@
 -- Trees are planted node by node, each put behind the children of its parent: the heap stays sound.
-use Rattle.std.proofs.Common.{◌≡◌, ◌≢◌, ℕ, ◌+◌, ◌<◌, ◌≤◌, length, List, [], ◌∷◌, ◌++◌, Bool, true, refl, ap, sym, ◌∙◌, subst, arith, append_assoc}
+use Rattle.std.proofs.Common.{◌≡◌, ◌≢◌, ℕ, ◌+◌, ◌<◌, ◌≤◌, length, slice_get, Some, List, [], ◌∷◌, ◌++◌, Bool, true, refl, ap, sym, ◌∙◌, subst, arith, append_assoc}
 use Rattle.std.proofs.lemmas.Bool.{lt-ltb}
 use Rattle.std.proofs.lemmas.List.{append-nil}
 use Rattle.std.proofs.lemmas.Option.{slice_get_within}
@@ -12,7 +12,7 @@ use Rattle.cell_places.specs.declared.answer.Answer.{Answer}
 use Rattle.cell_places.specs.declared.answer.Answer.TheVariants as a
 use Rattle.cell_places.specs.declared.kind.CellKind.{CellKind}
 use Rattle.cell_places.specs.declared.kind.CellKind.TheVariants as kind
-use Rattle.cell_places.specs.Lists.{Every}
+use Rattle.cell_places.specs.Lists.{Every, Distinct}
 use Rattle.cell_places.specs.Places.{slot_rank}
 use Rattle.cell_places.specs.Kinds.{is_child, is_object, is_node, is_parent}
 use Rattle.cell_places.specs.Heap.{Heap, cell, place, or_plain, next, weight_left, cells_in, children_at}
@@ -26,9 +26,10 @@ use Rattle.cell_places.proofs.Grown.{slice_get-last, length-grown, slice_get-gro
 use Rattle.cell_places.proofs.KeepsSound.{IsSound-made, IsSound-put_quiet}
 use Rattle.cell_places.proofs.NextChild.{linked, other_slot, other_cell, CanLink, IsSound-linked}
 use Rattle.cell_places.proofs.Spared.{put_at-twice, Spares, after-append, after-swap, after-spares, after-kind}
-use Rattle.dom_tree.specs.Trees.{Trees, HaveNoAttributes, none, text, element}
-use Rattle.page_reader.specs.Planting.{node_count, root_names, node_acts, children_acts, trees_acts, planted}
-use Rattle.page_reader.proofs.TreesActs.{kind_new, with_node, with_text, with_inner, element_after, children_length, trees_length, children_puts, trees_spare, trees_weight, children_weight}
+use Rattle.dom_tree.specs.Trees.{Trees, Attribute, HaveNamesOnce, none, text, element}
+use Rattle.page_reader.specs.Planting.{node_count, root_names, node_acts, attribute_acts, children_acts, trees_acts, planted}
+use Rattle.page_reader.proofs.AttributesPut.{names_of, attributes_spare, attributes_sound}
+use Rattle.page_reader.proofs.TreesActs.{kind_new, with_node, with_element, with_text, with_inner, element_after, element_kinds, element_weight, children_length, trees_length, children_puts, trees_spare, trees_weight, children_weight}
 
 -- the heap with these children of p, where there are any
 abbrev pub listed : CellName → List CellName → Heap → Heap
@@ -229,25 +230,57 @@ nothing_new codes H p cs n slot g =
     sym (after-spares H (place (cell n) slot) (children_acts p cs) (children_puts (λ q. place (cell n) slot ≢ q) p cs (other_cell (cell n) p slot s.Children (λ e. let same = ap (λ (c : CellName). c.0) e in absurd (omega arith)))))
     ∙ absent_past (listed p cs H) g.sound.valid (place (cell n) slot) (omega arith)
 
--- the new element has no children yet
-inner_grows : (codes : ℕ) (H : Heap) (p : CellName) (cs : List CellName) (n : ℕ) (name : List ℕ) → Grows codes H p cs n → n + 1 + weight_left H ≤ 3999999999
-    → Grows codes (listed p (cs ++ cell n ∷ []) (with_node H n (kind.Element name) p)) (cell n) [] (n + 1)
-inner_grows codes H p cs n name g room =
-    let G = with_node H n (kind.Element name) p in
+-- nor does anything at the new node but its prototype and its parent
+node_bare : (codes : ℕ) (H : Heap) (k : CellKind) (p : CellName) (cs : List CellName) (n : ℕ) (slot : Slot) → Grows codes H p cs n → slot_rank slot ≢ 2 → slot_rank slot ≢ 5
+    → (listed p (cs ++ cell n ∷ []) (with_node H n k p)).at (place (cell n) slot) ≡ a.Absent
+node_bare codes H k p cs n slot g e f =
+    let G = with_node H n k p in
     let ds = cs ++ cell n ∷ [] in
     let below = parent_below codes H p cs n g in
-    let l = length-grown H.kinds (kind.Element name) in
-    let kinds = children_length G p ds in
+    let q = place (cell n) slot in
+    after-spares G q (children_acts p ds) (children_puts (λ r. q ≢ r) p ds (other_cell (cell n) p slot s.Children (λ e. let same = ap (λ (c : CellName). c.0) e in absurd (omega arith))))
+    ∙ (after-spares H q (node_acts n k p) (tt, (other_slot (cell n) (cell n) slot s.Proto e, (other_slot (cell n) (cell n) slot s.Parent f, tt)))
+    ∙ nothing_new codes H p cs n slot g)
+
+-- attributes are put at the new element, before the list of p or after it
+attributes_swap : (p : CellName) (ds : List CellName) (G : Heap) (n : ℕ) (attributes : List Attribute) → after (listed p ds G) (attribute_acts (cell n) attributes) ≡ listed p ds (after G (attribute_acts (cell n) attributes))
+attributes_swap p ds G n attributes = listed_swap p ds G (attribute_acts (cell n) attributes) (attributes_spare (cell n) p s.Children attributes (λ e. cc) (λ e. cc))
+
+element_sound : (codes : ℕ) (H : Heap) (p : CellName) (cs : List CellName) (n : ℕ) (name : List ℕ) (attributes : List Attribute) → Distinct (names_of attributes) → Grows codes H p cs n → n + 1 + weight_left H ≤ 3999999999
+    → IsSound codes (listed p (cs ++ cell n ∷ []) (with_element H n name attributes p))
+element_sound codes H p cs n name attributes once g room =
+    let k = kind.Element name in
+    let G = with_node H n k p in
+    let ds = cs ++ cell n ∷ [] in
+    subst (IsSound codes) (attributes_swap p ds G n attributes)
+    (attributes_sound codes (listed p ds G) (cell n) attributes (node_sound codes H k p cs n (node_kind k refl) g room) (record {
+      element = subst (λ (ks : List CellKind). CanAskIn ks (place (cell n) s.AttrNames)) (sym (children_length G p ds)) (k, kind_new H k n g.count, refl);
+      once = once;
+      bare = λ attribute. node_bare codes H k p cs n (s.Attr attribute) g (λ e. cc) (λ e. cc);
+      unnamed = node_bare codes H k p cs n s.AttrNames g (λ e. cc) (λ e. cc);
+    }))
+
+-- the new element has no children yet
+inner_grows : (codes : ℕ) (H : Heap) (p : CellName) (cs : List CellName) (n : ℕ) (name : List ℕ) (attributes : List Attribute) → Distinct (names_of attributes) → Grows codes H p cs n → n + 1 + weight_left H ≤ 3999999999
+    → Grows codes (listed p (cs ++ cell n ∷ []) (with_element H n name attributes p)) (cell n) [] (n + 1)
+inner_grows codes H p cs n name attributes once g room =
+    let k = kind.Element name in
+    let G = with_node H n k p in
+    let E = with_element H n name attributes p in
+    let ds = cs ++ cell n ∷ [] in
+    let l = length-grown H.kinds k in
+    let made : E.kinds ≡ H.kinds ++ k ∷ [] = element_kinds H n name attributes p in
+    let kinds : (listed p ds E).kinds ≡ H.kinds ++ k ∷ [] = children_length E p ds ∙ made in
     let q = place (cell n) s.Children in
     record {
-      sound = node_sound codes H (kind.Element name) p cs n (node_kind (kind.Element name) refl) g room;
+      sound = element_sound codes H p cs n name attributes once g room;
       count = ap (λ (ks : List CellKind). length ks) kinds ∙ (let count = g.count in omega arith);
       siblings = ap cells_in
-          (after-spares G q (children_acts p ds) (children_puts (λ r. q ≢ r) p ds (other_cell (cell n) p s.Children s.Children (λ e. let same = ap (λ (c : CellName). c.0) e in absurd (omega arith))))
-          ∙ (after-spares H q (node_acts n (kind.Element name) p) (tt, (other_slot (cell n) (cell n) s.Children s.Proto (λ e. cc), (other_slot (cell n) (cell n) s.Children s.Parent (λ e. cc), tt)))
-          ∙ nothing_new codes H p cs n s.Children g));
+          (ap (λ (K : Heap). K.at q) (sym (attributes_swap p ds G n attributes))
+          ∙ (after-spares (listed p ds G) q (attribute_acts (cell n) attributes) (attributes_spare (cell n) (cell n) s.Children attributes (λ e. cc) (λ e. cc))
+          ∙ node_bare codes H k p cs n s.Children g (λ e. cc) (λ e. cc)));
       names = tt;
-      parent = subst (λ (ks : List CellKind). CanAskIn ks q) (sym kinds) (kind.Element name, kind_new H (kind.Element name) n g.count, refl);
+      parent = subst (λ (ks : List CellKind). CanAskIn ks q) (sym kinds) (k, kind_new H k n g.count, refl);
     }
 
 -- ---- all of them
@@ -260,14 +293,14 @@ none_more : (codes : ℕ) (p : CellName) (cs : List CellName) (H : Heap) → IsS
 none_more codes p cs H h = subst (λ (ds : List CellName). IsSound codes (listed p ds H)) (sym (append-nil cs)) h
 
 -- the children of the new element were put before the list of p was
-inner_listed : (p : CellName) (ds : List CellName) (G : Heap) (n : ℕ) (children : Trees) → HaveNoAttributes children → p.0 < n
+inner_listed : (p : CellName) (ds : List CellName) (G : Heap) (n : ℕ) (children : Trees) → HaveNamesOnce children → p.0 < n
     → listed (cell n) (root_names (n + 1) children) (after (listed p ds G) (trees_acts (cell n) (n + 1) children)) ≡ listed p ds (with_inner G n children)
 inner_listed p ds G n children h below =
     ap (listed (cell n) (root_names (n + 1) children)) (listed_swap p ds G (trees_acts (cell n) (n + 1) children) (trees_spare children (cell n) (n + 1) (place p s.Children) h (omega arith)))
     ∙ listed_swap p ds (after G (trees_acts (cell n) (n + 1) children)) (children_acts (cell n) (root_names (n + 1) children))
     (children_puts (λ r. place p s.Children ≢ r) (cell n) (root_names (n + 1) children) (other_cell p (cell n) s.Children s.Children (λ e. let same = ap (λ (c : CellName). c.0) e in absurd (omega arith))))
 
-trees_sound : (codes : ℕ) (trees : Trees) (H : Heap) (p : CellName) (cs : List CellName) (n : ℕ) → HaveNoAttributes trees → Grows codes H p cs n → n + node_count trees + weight_left H ≤ 3999999999
+trees_sound : (codes : ℕ) (trees : Trees) (H : Heap) (p : CellName) (cs : List CellName) (n : ℕ) → HaveNamesOnce trees → Grows codes H p cs n → n + node_count trees + weight_left H ≤ 3999999999
     → IsSound codes (listed p (cs ++ root_names n trees) (after H (trees_acts p n trees)))
 trees_sound codes none H p cs n h g room = none_more codes p cs H g.sound
 trees_sound codes (text units more) H p cs n h g room =
@@ -277,18 +310,21 @@ trees_sound codes (text units more) H p cs n h g room =
     let later = next_grows codes H K p cs n (n + 1) g (text_sound codes H p cs n units g (omega arith)) (omega arith) (omega arith) (g.parent.0, slice_get-grown H.kinds kind.Chars p.0 g.parent.0 g.parent.1, g.parent.2) in
     regrouped codes p (cell n) cs (root_names (n + 1) more) (after K (trees_acts p (n + 1) more)) (after K (trees_acts p (n + 1) more)) refl
     (trees_sound codes more K p (cs ++ cell n ∷ []) (n + 1) h later (omega arith))
-trees_sound codes (element name [] children more) H p cs n h g room =
+trees_sound codes (element name attributes children more) H p cs n h g room =
     let k = kind.Element name in
-    let G = with_node H n k p in
+    let G = with_element H n name attributes p in
     let ds = cs ++ cell n ∷ [] in
     let K = with_inner G n children in
     let m = n + 1 + node_count children in
     let count = g.count in
     let l = length-grown H.kinds k in
+    let kinds = element_kinds H n name attributes p in
+    let made = ap (λ (ks : List CellKind). length ks) kinds in
+    let lighter = element_weight H n name attributes p in
     let light = children_weight G p ds in
     let inner : IsSound codes (listed p ds K) =
     subst (IsSound codes) (inner_listed p ds G n children h.1 (parent_below codes H p cs n g))
-    (trees_sound codes children (listed p ds G) (cell n) [] (n + 1) h.1 (inner_grows codes H p cs n name g (omega arith)) (omega arith)) in
+    (trees_sound codes children (listed p ds G) (cell n) [] (n + 1) h.1 (inner_grows codes H p cs n name attributes h.0 g (omega arith)) (omega arith)) in
     let long = trees_length children G (cell n) (n + 1) h.1 in
     let same = children_length (after G (trees_acts (cell n) (n + 1) children)) (cell n) (root_names (n + 1) children) in
     let many : length K.kinds ≡ m = ap (λ (ks : List CellKind). length ks) same ∙ (omega arith) in
@@ -297,12 +333,12 @@ trees_sound codes (element name [] children more) H p cs n h g room =
     let parent : CanAskIn K.kinds (place p s.Children) = (
       g.parent.0,
       after-kind (after G (trees_acts (cell n) (n + 1) children)) (children_acts (cell n) (root_names (n + 1) children)) p.0 g.parent.0
-          (after-kind G (trees_acts (cell n) (n + 1) children) p.0 g.parent.0 (slice_get-grown H.kinds k p.0 g.parent.0 g.parent.1)),
+          (after-kind G (trees_acts (cell n) (n + 1) children) p.0 g.parent.0
+          (subst (λ (ks : List CellKind). slice_get ks p.0 ≡ Some g.parent.0) (sym kinds) (slice_get-grown H.kinds k p.0 g.parent.0 g.parent.1))),
       g.parent.2,
     ) in
-    regrouped codes p (cell n) cs (root_names m more) (after K (trees_acts p m more)) (after H (trees_acts p n (element name [] children more))) (element_after H p n name children more)
+    regrouped codes p (cell n) cs (root_names m more) (after K (trees_acts p m more)) (after H (trees_acts p n (element name attributes children more))) (element_after H p n name attributes children more)
     (trees_sound codes more K p ds m h.2 (next_grows codes H K p cs n m g inner many (omega arith) parent) (omega arith))
-trees_sound codes (element name (x ∷ xs) children more) H p cs n h g room = absurd (let e = h.0 in cc)
 
 -- ---- the document
 
@@ -311,7 +347,7 @@ pub document_parent : (codes : ℕ) (H : Heap) → IsSound codes H → CanAskIn 
 document_parent codes H sound = (kind.Document, kind-start H.kinds sound.start 2 kind.Document refl, refl)
 
 -- The heap with the trees under the document is sound.
-pub planted_sound : (codes : ℕ) (H : Heap) (trees : Trees) → IsSound codes H → children_at H document_cell ≡ [] → HaveNoAttributes trees → length H.kinds + node_count trees + weight_left H ≤ 3999999999 → IsSound codes (planted H trees)
+pub planted_sound : (codes : ℕ) (H : Heap) (trees : Trees) → IsSound codes H → children_at H document_cell ≡ [] → HaveNamesOnce trees → length H.kinds + node_count trees + weight_left H ≤ 3999999999 → IsSound codes (planted H trees)
 planted_sound codes H trees sound empty h room =
     let n = length H.kinds in
     subst (IsSound codes) (sym (after-append H (trees_acts document_cell n trees) (children_acts document_cell (root_names n trees))))

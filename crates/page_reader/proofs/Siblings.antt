@@ -5,7 +5,7 @@ use Rattle.page_units.specs.declared.value.CellName.{CellName}
 use Rattle.cell_places.specs.declared.kind.CellKind.TheVariants.{Element}
 use Rattle.cell_places.specs.Heap.{cell}
 use Rattle.cell_places.specs.Acts.{Act}
-use Rattle.dom_tree.specs.Trees.{Trees, HaveNoAttributes, none, text, element}
+use Rattle.dom_tree.specs.Trees.{Trees, HaveNamesOnce, none, text, element}
 use Rattle.dom_tree.specs.Trees as dom
 use Rattle.page_reader.specs.declared.node.Node.{Node}
 use Rattle.page_reader.specs.declared.node.Node.TheFolds.{fold_out-Node}
@@ -20,7 +20,7 @@ pub record IsFront (front : Trees → Trees) : Type 0 where
   pub names : (n : ℕ) (more : Trees) → root_names n (front more) ≡ root_names n (front none) ++ root_names (n + node_count (front none)) more
   pub one : (n : ℕ) → root_names n (front none) ≡ cell n ∷ []
   pub count : (more : Trees) → node_count (front more) ≡ node_count (front none) + node_count more
-  pub plain : (more : Trees) → HaveNoAttributes (front more) → HaveNoAttributes (front none) × HaveNoAttributes more
+  pub once : (more : Trees) → HaveNamesOnce (front more) → HaveNamesOnce (front none) × HaveNamesOnce more
 
 text_front : (units : List ℕ) → IsFront (λ more. text units more)
 text_front units = record {
@@ -28,7 +28,7 @@ text_front units = record {
   names = λ n more. refl;
   one = λ n. refl;
   count = λ more. omega arith;
-  plain = λ more h. (tt, h);
+  once = λ more h. (tt, h);
 }
 
 element_front : (name : List ℕ) (attributes : List dom.Attribute) (children : Trees) → IsFront (λ more. element name attributes children more)
@@ -42,7 +42,7 @@ element_front name attributes children = record {
       ap (λ (m : ℕ). cell n ∷ root_names m more) behind;
   one = λ n. refl;
   count = λ more. omega arith;
-  plain = λ more h. ((h.0, h.1, tt), h.2);
+  once = λ more h. ((h.0, h.1, tt), h.2);
 }
 
 step_front : (x : Node-F (Trees → Trees)) → IsFront (node_step x)

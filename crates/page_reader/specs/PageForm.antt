@@ -1,155 +1,110 @@
--- The page form, as far as pages are read, as a grammar over tokens (this project's own page form).
-use Rattle.std.specs.Prelude.{ℕ, zero, suc, Bool, false, not, ◌||◌, ◌&&◌, cond, ◌==◌, List, [], ◌∷◌, ◌++◌, Some, None}
-use Rattle.dom_tree.specs.Names.{is_void, is_raw}
-use Rattle.grammar.specs.Grammar.{Rule, token, done, refused, then, or, again}
-use Rattle.page_reader.specs.declared.node.Node.{Node}
-use Rattle.page_reader.specs.declared.node.Node.TheVariants as n
-use Rattle.page_reader.specs.Bytes.{Token, is_lt, is_gt, is_slash, is_last, is_letter, lower, is_text}
+-- The whole page: a doctype, pads and one element (this project's own page form).
+use Rattle.std.specs.Prelude.{ℕ, Bool, true, false, not, ◌||◌, cond, List, [], ◌∷◌, codes}
+use Rattle.grammar.specs.Grammar.{done, or, again}
+use Rattle.grammar.specs.Words.{◌>>=◌, ◌>>◌, refuse}
+use Rattle.placed_chars.specs.declared.chars.Char.{Char}
+use Rattle.placed_chars.specs.Chars.{is_end}
+use Rattle.page_reader.specs.declared.fault.Fault.{Fault}
+use Rattle.page_reader.specs.declared.fault.PageRule.TheVariants.{BadTag, RootCount}
+use Rattle.page_reader.specs.declared.outside.Outside.{Outside}
+use Rattle.page_reader.specs.declared.outside.Outside.TheVariants.{Seeking, Opening}
+use Rattle.page_reader.specs.Classes.{is_last, is_white, is_letter, is_any_case, is_lt, is_slash, is_bang}
+use Rattle.page_reader.specs.Rules.{R, fault, one, next, other, never, must, cut_off}
+use Rattle.page_reader.specs.Comments.{comment}
+use Rattle.page_reader.specs.Content.{Found, element, opened}
 
--- what is wrong with a page: so far one word for all
-abbrev pub misfit : Unit {0}
-misfit = tt
+-- ---- before the root
 
-abbrev pub R : Type 0 → Type 1
-R A = Rule Token (Unit {0}) A
+-- A doctype that is cut off leaves the page without a root; any other character begins no tag or comment.
+abbrev pub no_doctype : ℕ → Char → Fault
+no_doctype at t = cond (is_end t.code) (fault RootCount t.at) (fault BadTag at)
 
-infixl 10 ◌>>=◌
-abbrev pub ◌>>=◌ : {A B : Type 0} → R A → (A → R B) → R B
-a >>= f = then a f
+-- these characters in any case
+abbrev pub word : ℕ → List ℕ → R (Unit {0})
+word at [] = done tt
+word at (c ∷ cs) = must (is_any_case c) (no_doctype at) >> word at cs
 
-infixl 10 ◌>>◌
-abbrev pub ◌>>◌ : {A B : Type 0} → R A → R B → R B
-a >> b = then a (λ _. b)
+-- Doctype = <!DOCTYPE html>, in any case | Comment   behind the `<!` at the front of the page
+abbrev pub front_bang : ℕ → R (Unit {0})
+front_bang at = or
+    (one (is_any_case 100) >> word at (codes "octype html>"))
+    (next (λ x. not (is_any_case 100 x)) >> comment at)
 
--- ---- bytes, and misfits where they don't come
+-- a comment, or at the front also the doctype
+abbrev pub bang : Bool → ℕ → R (Unit {0})
+bang is_front at = cond is_front (front_bang at) (comment at)
 
-abbrev pub one : (ℕ → Bool) → R Token
-one p = token (λ t. p t.byte)
+-- what is no start tag and no comment before the root; an end tag is outside it
+abbrev pub cut_off_outside : ℕ → Char → Fault
+cut_off_outside at t = cut_off at (cond (is_slash t.code) (fault RootCount at) (fault BadTag at)) t
 
--- any byte but these is a misfit
-abbrev pub other : {A : Type 0} → (ℕ → Bool) → R A
-other p = refused (λ t. cond (p t.byte) None (Some misfit))
-
--- a byte that must stand here
-abbrev pub need : (ℕ → Bool) → R Token
-need p = or (one p) (other p)
-
--- the same, where what it was is of no use
-abbrev pub must : (ℕ → Bool) → R (Unit {0})
-must p = need p >> done tt
-
--- whatever comes next is a misfit
-abbrev pub refuse : {A : Type 0} → R A
-refuse = refused (λ _. Some misfit)
-
--- what is never read
-abbrev pub never : {A : Type 0} → R A
-never = refused (λ _. None)
-
--- ---- names, lowered
-
-abbrev pub name_goes : List ℕ → Token → Bool
-name_goes _ t = is_letter t.byte
-
-abbrev pub more_name : List ℕ → R (List ℕ)
-more_name name = do
-  t ← one is_letter
-  done (name ++ lower t.byte ∷ [])
-
--- Name = letter {letter}   behind its first letter
-unfoldable pub name : ℕ → R (List ℕ)
-name letter = again name_goes more_name (lower letter ∷ [])
-
--- ---- end tags, behind their `</`
-
--- this letter of a name that is lowered, in any case
-abbrev pub same_letter : ℕ → ℕ → Bool
-same_letter c b = is_letter b && lower b == c
-
--- the name that is given, in any case
-abbrev pub same_name : List ℕ → R (Unit {0})
-same_name [] = done tt
-same_name (c ∷ cs) = must (same_letter c) >> same_name cs
-
--- EndTag = </ the element's name >
-unfoldable pub end_tag : List ℕ → R (Unit {0})
-end_tag name = do
-  same_name name
-  must is_gt
-
--- ---- elements
-
--- A text makes a node, unless it is empty. Its bytes are ASCII, so they are its units.
-abbrev pub flushed : List Node → List ℕ → List Node
-flushed children [] = children
-flushed children (b ∷ bs) = children ++ n.Chars (b ∷ bs) ∷ []
-
--- the children and the text behind them so far, in an element or at its end
-pub data Content : Type 0 where
-  Inside : List Node → List ℕ → Content
-  Ended : List Node → Content
-
-abbrev pub content_goes : Content → Token → Bool
-content_goes (Inside children text) t = is_lt t.byte || is_text t.byte
-content_goes (Ended children) t = false
-
-abbrev pub is_markup : ℕ → Bool
-is_markup b = is_slash b || is_letter b
-
--- the end tag or a child, behind a `<`
-abbrev pub markup : R Node → List ℕ → List Node → List ℕ → R Content
-markup inner tag children text = or
-    (one is_slash >> end_tag tag >> done (Ended (flushed children text)))
+-- what stands behind a `<` before the root
+abbrev pub before_root : Bool → ℕ → R Outside
+before_root is_front at = or
+    (one is_bang >> bang is_front at >> done Seeking)
     (or
     (do
-      child ← inner
-      done (Inside (flushed children text ++ child ∷ []) []))
-    (other is_markup))
+      t ← one is_letter
+      done (Opening at t.code))
+    (other (λ x. is_bang x || is_letter x) (cut_off_outside at)))
 
--- markup, or a byte of text
-abbrev pub piece : R Node → List ℕ → Content → R Content
-piece inner tag (Inside children text) = or
-    (one is_lt >> markup inner tag children text)
+abbrev pub is_pad : ℕ → Bool
+is_pad x = is_white x || is_lt x
+
+abbrev pub outside_goes : Outside → Char → Bool
+outside_goes Seeking t = is_pad t.code
+outside_goes (Opening at letter) t = false
+
+-- white space, a comment, or the root's first letter
+abbrev pub pad_before : Outside → R Outside
+pad_before Seeking = or
+    (one is_white >> done Seeking)
     (do
-      t ← one is_text
-      done (Inside children (text ++ t.byte ∷ [])))
-piece inner tag (Ended children) = never
+      t ← one is_lt
+      before_root false t.at)
+pad_before (Opening at letter) = never
 
-abbrev pub ended : List ℕ → Content → R Node
-ended tag (Inside children text) = refuse
-ended tag (Ended children) = done (n.Element tag [] children)
+-- what the page begins with, where that is a `<`
+abbrev pub front : R Outside
+front = or
+    (do
+      t ← one is_lt
+      before_root true t.at)
+    (next (λ x. not (is_lt x)) >> done Seeking)
 
--- Content = {text | Element} EndTag
-abbrev pub full_body : R Node → List ℕ → R Node
-full_body inner tag = do
-  content ← again content_goes (piece inner tag) (Inside [] [])
-  ended tag content
+-- ---- the root and what stands behind it
 
--- what stands behind a start tag, which has no void name, `script` or `style`
-abbrev pub body : R Node → List ℕ → R Node
-body inner tag = cond (is_void tag || is_raw tag) refuse (full_body inner tag)
+abbrev pub root : ℕ → Outside → R Found
+root room Seeking = refuse (λ t. fault RootCount t.at)
+root room (Opening at letter) = element (opened room) at [] letter
 
--- Element = < Name > Content   behind its `<` and first letter
-abbrev pub element : R Node → ℕ → R Node
-element inner letter = do
-  tag ← name letter
-  must is_gt
-  body inner tag
+-- what stands behind a `<` behind the root
+abbrev pub behind_root : ℕ → R (Unit {0})
+behind_root at = or
+    (one is_bang >> comment at)
+    (other is_bang (λ t. cut_off at (cond (is_slash t.code || is_letter t.code) (fault RootCount at) (fault BadTag at)) t))
 
--- an element behind its `<`, where so many levels are left
-unfoldable pub opened : ℕ → R Node
-opened zero = other (λ b. not (is_letter b))
-opened (suc room) = do
-  t ← one is_letter
-  element (opened room) t.byte
+abbrev pub pad_goes : Unit {0} → Char → Bool
+pad_goes _ t = is_pad t.code
 
--- ---- the page
+-- white space or a comment
+abbrev pub pad_behind : Unit {0} → R (Unit {0})
+pad_behind _ = or
+    (one is_white >> done tt)
+    (do
+      t ← one is_lt
+      behind_root t.at)
 
--- Page = Element   and the end, with so many levels below the root
-abbrev pub page : ℕ → R Node
+-- the end of the page
+abbrev pub last : R (Unit {0})
+last = must is_last (λ t. fault RootCount t.at)
+
+-- Page = [Doctype] {white | Comment} Element {white | Comment}   and the end, with so many levels below the root
+abbrev pub page : ℕ → R Found
 page room = do
-  must is_lt
-  letter ← need is_letter
-  node ← element (opened room) letter.byte
-  must is_last
-  done node
+  start ← front
+  outside ← again outside_goes pad_before start
+  found ← root room outside
+  again pad_goes pad_behind tt
+  last
+  done found

@@ -1,10 +1,21 @@
-//! Pages: from bytes to trees, and into a heap.
+//! Pages: from bytes to trees and scripts, and into a heap.
 #![tactic(auto)]
 
-mod byte_classes;
+mod attributes;
+mod classes;
+mod comments;
+mod content;
+mod fault;
+mod names;
 mod node;
+mod outside;
 pub mod page;
 mod plant;
+mod raw;
 mod reader;
+mod references;
+mod tags;
+mod whole;
 
+pub use fault::{PageFault, PageRule};
 pub use page::{PageParts, ScriptText, read_page};

@@ -1,21 +1,23 @@
 //! Reads a page into a heap.
-ghost use Rattle.std.specs.Prelude.{◌≡◌, ◌<◌, ◌+◌, ℕ, [], length, IfOk, OnOk, MatchOption};
+ghost use Rattle.std.specs.Prelude.{◌≡◌, ◌<◌, ◌+◌, ℕ, List, [], length, OnOk};
 ghost use Rattle.cell_places.specs.Heap.{children_at, weight_left};
 ghost use Rattle.cell_places.specs.View.{heap};
 ghost use Rattle.cell_places.specs.Rooted.{Rooted};
 ghost use Rattle.cell_places.specs.Start.{document_cell};
 ghost use Rattle.cell_places.specs.Sound.{IsSound, SumsWithin};
-ghost use Rattle.page_reader.specs.Page.{IsNoPage};
-ghost use Rattle.page_reader.specs.Reading.{ReadsPage};
+ghost use Rattle.dom_tree.specs.Trees.{Trees};
+ghost use Rattle.page_reader.specs.declared.page.ScriptText.{ScriptText};
+ghost use Rattle.page_reader.specs.Page.{IsPage, IsPageFault};
+ghost use Rattle.page_reader.specs.Reading.{PageRead, NoFault, OnlyFault};
 
+use crate::fault::PageFault;
 use crate::plant::plant;
-use crate::reader::read_tree;
+use crate::whole::read_tree;
 use cell_places::Cells;
-use page_units::NoMemory;
 use std::alloc::Global;
 
-/// A script of a page: its number in tree order, from 0, and its slice of the page's bytes, from
-/// `at` to before `end`.
+/// A script of a page: its number in tree order, from 0, and the slice of the page's bytes that is its
+/// content, from the byte `at` to before the byte `end`, counted from 0.
 #[derive(Clone, Copy, Debug, PartialEq, Eq)]
 pub struct ScriptText {
     pub index: u32,
@@ -23,35 +25,42 @@ pub struct ScriptText {
     pub end: u32,
 }
 
-/// What a page has besides its tree.
+/// What a page has besides its tree: its scripts, in tree order.
 #[derive(Drop)]
 pub struct PageParts {
     pub scripts: Vec<ScriptText>,
 }
 
-/// Reads the bytes as a page and puts its tree under the document, which must be empty; None
-/// exactly where they are no page of the form that is read so far, and then nothing is changed. It
-/// charges nothing. After want of memory the heap is to be given up.
+/// Reads the bytes as a page and puts its tree under the document, which must be empty. It charges
+/// nothing.
+///
+/// `Rule` comes exactly where the bytes are no page, with the number of the rule that they break and
+/// the byte at which; then nothing is changed. `NoMemory` comes where memory was refused; then the
+/// heap is to be given up.
 pub fn read_page<C: Cells>(
     alloc: Global,
     cells: &mut C,
     bytes: &[u8],
-) -> Result<Option<PageParts>, NoMemory>
+) -> Result<PageParts, PageFault>
     requires sound { (codes : ℕ) × IsSound codes (heap (C.seen cells.old)) }
     requires empty { children_at (heap (C.seen cells.old)) document_cell ≡ [] }
     requires room { length (heap (C.seen cells.old)).kinds + weight_left (heap (C.seen cells.old)) < 3998000000 }
-    ensures page { IfOk result (λ read. MatchOption read
-        (IsNoPage bytes.now × (C.seen cells.new ≡ C.seen cells.old))
-        (λ parts. ReadsPage (C.seen cells.old) (C.seen cells.new) bytes.now × (parts.scripts.items ≡ []))) }
+    // What is read is the page, and a fault is that of the bytes.
+    ensures page { PageRead result (C.seen cells.old) (C.seen cells.new) bytes.now }
+    // What is a page is read.
+    ensures only { (trees : Trees) (scripts : List ScriptText) → IsPage bytes.now trees scripts → NoFault result }
+    // A page has one tree and one list of scripts.
+    ensures one { (trees trees' : Trees) (scripts scripts' : List ScriptText) → IsPage bytes.now trees scripts
+        → IsPage bytes.now trees' scripts' → (trees ≡ trees') × (scripts ≡ scripts') }
+    // What shows a fault is refused with it.
+    ensures only_fault { (rule at : ℕ) → IsPageFault bytes.now rule at → OnlyFault result rule at }
     ensures sound { OnOk result ((codes : ℕ) → IsSound codes (heap (C.seen cells.old)) → IsSound codes (heap (C.seen cells.new))) }
     ensures sums { OnOk result ((bound : ℕ) → SumsWithin bound (heap (C.seen cells.old)) → SumsWithin (bound + length bytes.now) (heap (C.seen cells.new))) }
     ensures rooted { Rooted (C.seen cells.old) (C.seen cells.new) }
 {
-    let Some(root) = read_tree(alloc, bytes)? else {
-        return Ok(None);
-    };
-    plant(alloc, cells, &root)?;
-    Ok(Some(PageParts {
-        scripts: Vec::new(alloc),
-    }))
+    let page = read_tree(alloc, bytes)?;
+    plant(alloc, cells, &page.root)?;
+    Ok(PageParts {
+        scripts: page.scripts,
+    })
 }

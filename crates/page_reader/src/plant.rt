@@ -9,13 +9,13 @@ ghost use Rattle.cell_places.specs.Rooted.{Rooted};
 ghost use Rattle.cell_places.specs.Within.{is_below, NameIn};
 ghost use Rattle.cell_places.specs.Lists.{Every};
 ghost use Rattle.cell_places.specs.Start.{document_cell, node_prototype};
-ghost use Rattle.dom_tree.specs.Trees.{HaveNoAttributes};
-ghost use Rattle.page_reader.specs.NodeTrees.{trees_of};
-ghost use Rattle.page_reader.specs.Planting.{planting, node_count, root_names, node_acts, children_acts, trees_acts};
+ghost use Rattle.dom_tree.specs.Trees.{HaveNamesOnce};
+ghost use Rattle.page_reader.specs.NodeTrees.{pairs, trees_of};
+ghost use Rattle.page_reader.specs.Planting.{planting, node_count, root_names, node_acts, name_acts, attribute_acts, children_acts, trees_acts};
 
-use crate::node::Node;
+use crate::node::{Attribute, Node};
 use cell_places::{Answer, CellKind, Cells, Place, Slot};
-use page_units::{CellName, NoMemory, Shared, Value};
+use page_units::{CellName, NoMemory, Shared, Text, Value};
 use sqlite_items::Items;
 use std::alloc::Global;
 
@@ -31,7 +31,7 @@ pub(crate) fn plant<C: Cells>(alloc: Global, cells: &mut C, root: &Node) -> Resu
     requires document { CanAsk (heap (C.seen cells.old)) (place document_cell Slot.Children) }
     requires prototype { node_prototype.0 < length (heap (C.seen cells.old)).kinds }
     requires room { length (heap (C.seen cells.old)).kinds + node_count (trees_of (root.now ∷ [])) ≤ 4000000000 }
-    requires plain { HaveNoAttributes (trees_of (root.now ∷ [])) }
+    requires once { HaveNamesOnce (trees_of (root.now ∷ [])) }
     ensures acts { OnOk result (C.seen cells.new ≡ run (C.seen cells.old) (planting (heap (C.seen cells.old)) (trees_of (root.now ∷ [])))) }
     ensures rooted { Rooted (C.seen cells.old) (C.seen cells.new) }
 {
@@ -52,7 +52,7 @@ fn plant_siblings<C: Cells>(
     requires parent { CanAsk (heap (C.seen cells.old)) (place parent Slot.Children) }
     requires prototype { node_prototype.0 < length (heap (C.seen cells.old)).kinds }
     requires room { length (heap (C.seen cells.old)).kinds + node_count (trees_of nodes.now) ≤ 4000000000 }
-    requires plain { HaveNoAttributes (trees_of nodes.now) }
+    requires once { HaveNamesOnce (trees_of nodes.now) }
     ensures acts { OnOk result (C.seen cells.new ≡ run (C.seen cells.old) (trees_acts parent (length (heap (C.seen cells.old)).kinds) (trees_of nodes.now))) }
     ensures names { IfOk result (λ names. names.items ≡ root_names (length (heap (C.seen cells.old)).kinds) (trees_of nodes.now)) }
     ensures rooted { Rooted (C.seen cells.old) (C.seen cells.new) }
@@ -75,7 +75,7 @@ fn plant_node<C: Cells>(
     requires parent { CanAsk (heap (C.seen cells.old)) (place parent Slot.Children) }
     requires prototype { node_prototype.0 < length (heap (C.seen cells.old)).kinds }
     requires room { length (heap (C.seen cells.old)).kinds + node_count (trees_of (node.now ∷ [])) ≤ 4000000000 }
-    requires plain { HaveNoAttributes (trees_of (node.now ∷ [])) }
+    requires once { HaveNamesOnce (trees_of (node.now ∷ [])) }
     ensures acts { OnOk result (C.seen cells.new ≡ run (C.seen cells.old) (trees_acts parent (length (heap (C.seen cells.old)).kinds) (trees_of (node.now ∷ [])))) }
     ensures name { IfOk result (λ name. name ≡ next (heap (C.seen cells.old))) }
     ensures rooted { Rooted (C.seen cells.old) (C.seen cells.new) }
@@ -90,8 +90,9 @@ fn plant_node<C: Cells>(
             cells.put(&chars, Answer::One(Value::Str(units.clone()?)))?;
             Ok(name)
         }
-        Node::Element(tag, _, children) => {
+        Node::Element(tag, attributes, children) => {
             let name = make_node(cells, parent, CellKind::Element(tag.clone()?))?;
+            put_attributes(alloc, cells, name, attributes.as_slice())?;
             let names = plant_siblings(alloc, cells, name, children)?;
             put_children(cells, name, names)?;
             Ok(name)
@@ -117,6 +118,56 @@ fn make_node<C: Cells>(
     put_cell(cells, node, Slot::Proto, NODE_PROTOTYPE)?;
     put_cell(cells, node, Slot::Parent, parent)?;
     Ok(node)
+}
+
+/// Puts an element's attributes in order, and then their names where it has any.
+fn put_attributes<C: Cells>(
+    alloc: Global,
+    cells: &mut C,
+    node: CellName,
+    attributes: &[Attribute],
+) -> Result<(), NoMemory>
+    requires element { CanAsk (heap (C.seen cells.old)) (place node Slot.AttrNames) }
+    ensures acts { OnOk result (C.seen cells.new ≡ run (C.seen cells.old) (attribute_acts node (pairs attributes.now))) }
+    ensures rooted { Rooted (C.seen cells.old) (C.seen cells.new) }
+{
+    let mut names = Vec::with_capacity(alloc, attributes.len())?;
+    for attribute in attributes {
+        put_attribute(cells, node, attribute)?;
+        names.push(attribute.name.clone()?)?;
+    }
+    put_names(cells, node, names)
+}
+
+/// Puts an attribute's value.
+fn put_attribute<C: Cells>(
+    cells: &mut C,
+    node: CellName,
+    attribute: &Attribute,
+) -> Result<(), NoMemory>
+    requires element { CanAsk (heap (C.seen cells.old)) (place node Slot.AttrNames) }
+    ensures ok { OnOk result (C.seen cells.new ≡ step (C.seen cells.old) (placed (place node (Slot.Attr attribute.now.name)) (Answer.One (Value.Str attribute.now.value)))) }
+    ensures err { OnErr result (C.seen cells.new ≡ C.seen cells.old) }
+{
+    let slot = Slot::Attr(attribute.name.clone()?);
+    let value = attribute.value.clone()?;
+    cells.put(&Place { cell: node, slot }, Answer::One(Value::Str(value)))
+}
+
+/// Puts the names of an element's attributes, where it has any.
+fn put_names<C: Cells>(cells: &mut C, node: CellName, names: Vec<Text>) -> Result<(), NoMemory>
+    requires element { CanAsk (heap (C.seen cells.old)) (place node Slot.AttrNames) }
+    ensures acts { OnOk result (C.seen cells.new ≡ run (C.seen cells.old) (name_acts node names.items)) }
+    ensures err { OnErr result (C.seen cells.new ≡ C.seen cells.old) }
+{
+    if names.is_empty() {
+        return Ok(());
+    }
+    let place = Place {
+        cell: node,
+        slot: Slot::AttrNames,
+    };
+    cells.put(&place, Answer::Names(Shared::of_vec(names)?))
 }
 
 /// Puts a cell's name at a slot.

@@ -1,349 +1,158 @@
-//! Reads a page's bytes as its tree.
-ghost use Rattle.std.specs.Prelude.{◌≡◌, ◌||◌, ◌+◌, ◌++◌, ◌∷◌, ◌^◌, ◌<◌, ◌≤◌, [], drop, length, IsTrue, IfOk, OnOk, MatchOption};
-ghost use Rattle.grammar.specs.Grammar.{first, Derives};
+//! Reads a page's characters one by one.
+ghost use Rattle.std.specs.Prelude.{◌≡◌, ◌++◌, ◌≤◌, ◌<◌, [], true, drop, length, OnOk};
+ghost use Rattle.std.specs.Char.Escape.{encode_utf16};
+ghost use Rattle.std.specs.Str.{chars};
+ghost use Rattle.grammar.specs.Grammar.{first};
 ghost use Rattle.grammar.specs.Reading.{read};
-ghost use Rattle.page_reader.specs.declared.reader.ReadError.TheVariants.{Memory};
-ghost use Rattle.dom_tree.specs.Names as names;
-ghost use Rattle.page_reader.specs.Bytes as bytes;
-ghost use Rattle.page_reader.specs.Bytes.{tokens, stop};
-ghost use Rattle.page_reader.specs.Page.{IsNoPage, page_bytes};
-ghost use Rattle.page_reader.specs.PageForm as form;
-ghost use Rattle.page_reader.specs.PageForm.{page, Inside};
-ghost use Rattle.page_reader.specs.Reads.{Reads, ReadsAs, content};
+ghost use Rattle.placed_chars.specs.Chars.{placed, stop};
+ghost use Rattle.page_reader.specs.declared.fault.ReadError.TheVariants as errors;
+ghost use Rattle.page_reader.specs.Classes.{is, is_last};
+ghost use Rattle.page_reader.specs.Rules as rules;
+ghost use Rattle.page_reader.specs.Reads.{Reads};
 
-use crate::byte_classes::{is_letter, is_text, lower};
-use crate::node::Node;
-use dom_tree::{is_raw, is_void};
-use page_units::{NoMemory, Text};
-use sqlite_items::Items;
-use std::alloc::{AllocError, Global};
+use crate::classes::is_end;
+use crate::fault::{Fault, PageRule, ReadError};
+use page_units::NoMemory;
+use placed_chars::{Char, Characters};
 use std::marker::Model;
-use std::mem;
 
-/// What ends the reading of a page before its end.
-#[derive(Debug, Drop)]
-pub enum ReadError {
-    /// Memory was refused.
-    Memory,
-    /// What comes next fits nowhere.
-    Misfit,
-}
+/// How many bytes a page may have.
+pub(crate) const PAGE_BYTES: usize = 1_048_576;
 
-impl From<AllocError> for ReadError {
-    ghost from_gives = { λ _ error. error ≡ Memory };
-
-    fn from(_: AllocError) -> ReadError {
-        ReadError::Memory
-    }
-}
-
-/// What is left of a page's bytes, and how many were read; over once the end was read, too.
+/// The characters of a page that are still to be read, the end as a last one. No place is behind the
+/// greatest length of a page.
 #[derive(Drop)]
-struct Reader<'a> {
-    rest: &'a [u8],
-    at: usize,
-    is_over: bool,
+pub(crate) struct Reader<'a> {
+    characters: Characters<'a>,
 }
 
 impl<'a> Model for Reader<'a> {
-    ghost use Rattle.std.specs.Prelude.{List, ℕ, ◌+◌, ◌<◌, ◌^◌, length, cond, []};
-    ghost use Rattle.page_reader.specs.Bytes.{Token, tokens};
+    ghost use Rattle.std.specs.Prelude.{List};
+    ghost use Rattle.placed_chars.specs.declared.chars.Char.{Char};
+    ghost use Rattle.placed_chars.specs.Chars.{AreWithin};
 
-    ghost Value = { List Token };
+    ghost Value = { List Char };
 
-    ghost view = { λ p. cond p.is_over [] (tokens p.at p.rest.now) };
+    ghost view = { λ p. p.characters };
 
-    ghost invariant = { λ p. p.at + length p.rest.now < 2 ^ 62 };
+    ghost invariant = { λ p. AreWithin 1048576 p.characters };
+}
+
+/// The reading ends here, since this rule is broken at this byte.
+pub(crate) fn broken(rule: PageRule, at: u32) -> ReadError
+    ensures { result ≡ errors.Page (rules.fault rule at) }
+{
+    ReadError::Page(Fault { rule, at })
 }
 
 impl<'a> Reader<'a> {
-    /// The next byte, 256 at the end and 257 behind it.
-    fn peek(&self) -> u16
-        ensures value { result ≡ (first self.now stop).byte }
-        ensures over { result ≡ 256 → drop 1 self.now ≡ [] }
+    /// The characters of a whole page.
+    pub(crate) fn new(text: &'a str) -> Reader<'a>
+        requires { length text.now ≤ PAGE_BYTES }
+        ensures { result ≡ placed 0 (chars text.now) }
     {
-        if self.is_over {
-            return 257;
-        }
-        match self.rest.first() {
-            Some(b) => u16::from(*b),
-            None => 256,
+        Reader {
+            characters: Characters::new(text),
         }
     }
 
-    fn advance(&mut self)
+    /// The next character.
+    pub(crate) fn here(&self) -> Char
+        ensures value { result ≡ first self.now stop }
+        ensures ordered { result.at ≤ result.past }
+        ensures within { result.past ≤ PAGE_BYTES }
+    {
+        self.characters.here()
+    }
+
+    /// The next character's code.
+    pub(crate) fn code(&self) -> u32
+        ensures { result ≡ (first self.now stop).code }
+    {
+        self.here().code
+    }
+
+    /// The next character's first byte.
+    pub(crate) fn place(&self) -> u32
+        ensures { result ≡ (first self.now stop).at }
+    {
+        self.here().at as u32
+    }
+
+    /// Whether the page's end is next.
+    pub(crate) fn is_at_end(&self) -> bool
+        ensures value { result ≡ is_last (first self.now stop).code }
+        ensures over { result ≡ true → drop 1 self.now ≡ [] }
+    {
+        match self.characters.ahead() {
+            Some(_) => false,
+            None => self.code() == 0x110000,
+        }
+    }
+
+    /// Whether the next character is this one.
+    pub(crate) fn is_at(&self, c: char) -> bool
+        ensures { result ≡ is c (first self.now stop).code }
+    {
+        self.code() == u32::from(c)
+    }
+
+    pub(crate) fn advance(&mut self)
         ensures { self.new ≡ drop 1 self.old }
     {
-        if self.is_over {
-            return;
-        }
-        match self.rest.split_first() {
-            Some((_, rest)) => {
-                self.rest = rest;
-                self.at += 1;
-            }
-            None => {
-                self.is_over = true;
-            }
+        self.characters.advance();
+    }
+
+    /// The page ends within what began at the byte `at`, or else this rule is broken at `place`.
+    pub(crate) fn cut_off(&self, at: u32, rule: PageRule, place: u32) -> ReadError
+        ensures { result ≡ errors.Page (rules.cut_off at (rules.fault rule place) (first self.now stop)) }
+    {
+        if is_end(self.code()) {
+            broken(PageRule::Unclosed, at)
+        } else {
+            broken(rule, place)
         }
     }
 
-    /// Takes this byte.
-    fn must(&mut self, b: u16) -> Result<(), ReadError>
-        ensures { Reads (read stop (form.must (bytes.is_byte b)) self.old) result self.new }
+    /// Takes this character.
+    pub(crate) fn must(
+        &mut self,
+        c: char,
+        at: u32,
+        rule: PageRule,
+        place: u32,
+    ) -> Result<(), ReadError>
+        ensures { Reads (read stop (rules.must (is c) (rules.cut_off at (rules.fault rule place))) self.old) result self.new }
     {
-        if self.peek() != b {
-            return Err(ReadError::Misfit);
+        if !self.is_at(c) {
+            return Err(self.cut_off(at, rule, place));
         }
         self.advance();
         Ok(())
     }
 
-    /// Takes a name behind its first letter.
-    #[tactic(auto, unfolding(crate::specs::PageForm::name))]
-    fn name(&mut self, alloc: Global, letter: u16) -> Result<Items<u8>, ReadError>
-        requires { letter < 256 }
-        ensures { Reads (read stop (form.name letter) self.old) result self.new }
+    /// Takes the `>` of what began at the byte `at`.
+    pub(crate) fn close(&mut self, at: u32) -> Result<(), ReadError>
+        ensures { Reads (read stop (rules.closed at) self.old) result self.new }
     {
-        let mut name = Items::new(alloc);
-        name.push(lower(letter) as u8)?;
-        'letters: while is_letter(self.peek()) {
-            name.push(lower(self.peek()) as u8)?;
-            self.advance();
-        }
-        Ok(name)
-    }
-
-    /// Takes this letter of a name, in any case.
-    fn same_letter(&mut self, c: u8) -> Result<(), ReadError>
-        ensures { Reads (read stop (form.must (form.same_letter c)) self.old) result self.new }
-    {
-        let b = self.peek();
-        if !is_letter(b) || lower(b) != u16::from(c) {
-            return Err(ReadError::Misfit);
+        if !self.is_at('>') {
+            return Err(broken(PageRule::Unclosed, at));
         }
         self.advance();
         Ok(())
     }
-
-    fn same_name(&mut self, name: &Items<u8>) -> Result<(), ReadError>
-        ensures { Reads (read stop (form.same_name name.now) self.old) result self.new }
-    {
-        for c in name.as_slice() {
-            self.same_letter(*c)?;
-        }
-        Ok(())
-    }
-
-    /// Takes the end tag of this name behind its `</`.
-    #[tactic(auto, unfolding(crate::specs::PageForm::end_tag))]
-    fn end_tag(&mut self, name: &Items<u8>) -> Result<(), ReadError>
-        ensures { Reads (read stop (form.end_tag name.now) self.old) result self.new }
-    {
-        self.same_name(name)?;
-        self.must(62)
-    }
 }
 
-/// The text of these bytes, which are ASCII.
-fn text_of(alloc: Global, ascii: &[u8]) -> Result<Text, NoMemory>
-    ensures { IfOk result (λ text. text ≡ ascii.now) }
+/// Puts a character behind a text.
+pub(crate) fn push_code(units: &mut Vec<u16>, code: u32) -> Result<(), NoMemory>
+    requires { code < 0x110000 }
+    ensures { OnOk result (units.new.items ≡ units.old.items ++ encode_utf16 code) }
 {
-    let mut units = Vec::with_capacity(alloc, ascii.len())?;
-    for b in ascii {
-        units.push(u16::from(*b))?;
-    }
-    Text::of_units(units)
-}
-
-/// Makes a node of the text, unless it is empty.
-#[tactic(auto, using(crate::proofs::Turns::flushed_text, crate::proofs::Turns::flushed_none))]
-fn flush(alloc: Global, children: &mut Items<Node>, text: &mut Items<u8>) -> Result<(), NoMemory>
-    ensures children { OnOk result (children.new ≡ form.flushed children.old text.old) }
-    ensures text { OnOk result (text.new ≡ []) }
-{
-    if !text.is_empty() {
-        let chars = mem::replace(text, Items::new(alloc));
-        children.push(Node::Chars(text_of(alloc, chars.as_slice())?))?;
+    if code < 0x10000 {
+        units.push(code as u16)?;
+    } else {
+        units.push((0xD800 + (code - 0x10000) / 0x400) as u16)?;
+        units.push((0xDC00 + (code - 0x10000) % 0x400) as u16)?;
     }
     Ok(())
 }
-
-impl<'a> Reader<'a> {
-    /// Takes the end tag or a child behind a `<`, and answers whether it was the end tag.
-    #[cycle(element)]
-    #[tactic(auto, using(crate::proofs::Turns::may_opened, crate::proofs::Turns::markup_child))]
-    fn markup(
-        &mut self,
-        alloc: Global,
-        room: u8,
-        tag: &Items<u8>,
-        children: &mut Items<Node>,
-        text: &mut Items<u8>,
-    ) -> Result<bool, ReadError>
-        ensures { ReadsAs (λ ended. content ended children.new text.new) (read stop (form.markup (form.opened room) tag.now children.old text.old) self.old) result self.new }
-    {
-        let b = self.peek();
-        if b == 47 {
-            self.advance();
-            self.end_tag(tag)?;
-            flush(alloc, children, text)?;
-            return Ok(true);
-        }
-        if is_letter(b) {
-            let child = self.opened(alloc, room)?;
-            flush(alloc, children, text)?;
-            children.push(child)?;
-            return Ok(false);
-        }
-        Err(ReadError::Misfit)
-    }
-
-    /// Takes markup or a byte of text, and answers whether it was the end tag.
-    #[cycle(element)]
-    fn piece(
-        &mut self,
-        alloc: Global,
-        room: u8,
-        tag: &Items<u8>,
-        children: &mut Items<Node>,
-        text: &mut Items<u8>,
-    ) -> Result<bool, ReadError>
-        requires { IsTrue (form.content_goes (Inside children.old text.old) (first self.old stop)) }
-        ensures { ReadsAs (λ ended. content ended children.new text.new) (read stop (form.piece (form.opened room) tag.now (Inside children.old text.old)) self.old) result self.new }
-    {
-        let b = self.peek();
-        self.advance();
-        if b == 60 {
-            return self.markup(alloc, room, tag, children, text);
-        }
-        text.push(b as u8)?;
-        Ok(false)
-    }
-
-    fn in_content(&self) -> bool
-        ensures { result ≡ form.content_goes (Inside [] []) (first self.now stop) }
-    {
-        let b = self.peek();
-        b == 60 || is_text(b)
-    }
-
-    /// Takes children and the end tag.
-    #[cycle(element)]
-    fn full_body(&mut self, alloc: Global, room: u8, tag: Items<u8>) -> Result<Node, ReadError>
-        ensures { Reads (read stop (form.full_body (form.opened room) tag) self.old) result self.new }
-    {
-        let mut children = Items::new(alloc);
-        let mut text = Items::new(alloc);
-        let mut is_closed = false;
-        'pieces: while !is_closed && self.in_content() {
-            is_closed = self.piece(alloc, room, &tag, &mut children, &mut text)?;
-        }
-        if !is_closed {
-            return Err(ReadError::Misfit);
-        }
-        let name = text_of(alloc, tag.as_slice())?;
-        Ok(Node::Element(name, Items::new(alloc), children))
-    }
-
-    /// Takes what stands behind a start tag.
-    #[cycle(element)]
-    fn body(&mut self, alloc: Global, room: u8, tag: Items<u8>) -> Result<Node, ReadError>
-        ensures { Reads (read stop (form.body (form.opened room) tag) self.old) result self.new }
-    {
-        if has_own_rule(alloc, tag.as_slice())? {
-            return Err(ReadError::Misfit);
-        }
-        self.full_body(alloc, room, tag)
-    }
-
-    /// Takes an element behind its `<` and first letter.
-    #[cycle(element)]
-    fn element(&mut self, alloc: Global, room: u8, letter: u16) -> Result<Node, ReadError>
-        requires { letter < 256 }
-        ensures { Reads (read stop (form.element (form.opened room) letter) self.old) result self.new }
-    {
-        let tag = self.name(alloc, letter)?;
-        self.must(62)?;
-        self.body(alloc, room, tag)
-    }
-
-    /// Takes an element behind its `<`, where so many levels are left.
-    #[cycle(element)]
-    #[tactic(auto, using(crate::proofs::Turns::no_level, crate::proofs::Turns::one_level))]
-    fn opened(&mut self, alloc: Global, room: u8) -> Result<Node, ReadError>
-        requires { IsTrue (bytes.is_letter (first self.old stop).byte) }
-        ensures { Reads (read stop (form.opened room) self.old) result self.new }
-    {
-        if room == 0 {
-            return Err(ReadError::Misfit);
-        }
-        let letter = self.peek();
-        self.advance();
-        self.element(alloc, room - 1, letter)
-    }
-
-    /// Takes the end.
-    fn last(&mut self) -> Result<(), ReadError>
-        ensures value { Reads (read stop (form.must bytes.is_last) self.old) result self.new }
-        ensures over { OnOk result (self.new ≡ []) }
-    {
-        if self.peek() != 256 {
-            return Err(ReadError::Misfit);
-        }
-        self.advance();
-        Ok(())
-    }
-
-    fn page(&mut self, alloc: Global, room: u8) -> Result<Node, ReadError>
-        ensures value { Reads (read stop (page room) self.old) result self.new }
-        ensures over { OnOk result (self.new ≡ []) }
-    {
-        self.must(60)?;
-        let letter = self.peek();
-        if !is_letter(letter) {
-            return Err(ReadError::Misfit);
-        }
-        self.advance();
-        let node = self.element(alloc, room, letter)?;
-        self.last()?;
-        Ok(node)
-    }
-}
-
-/// How many bytes a page may have.
-const PAGE_BYTES: usize = 1048576;
-
-/// Whether a name is that of a void element, `script` or `style`, which have rules of their own.
-fn has_own_rule(alloc: Global, name: &[u8]) -> Result<bool, NoMemory>
-    ensures { IfOk result (λ special. special ≡ (names.is_void name.now || names.is_raw name.now)) }
-{
-    let name = text_of(alloc, name)?;
-    Ok(is_void(&name) || is_raw(&name))
-}
-
-/// How many levels may stand below the root.
-const LEVELS_BELOW: u8 = 127;
-
-/// The root of the page that the bytes are, and None exactly where they are no page.
-#[tactic(auto, using(crate::proofs::Whole::too_long))]
-pub(crate) fn read_tree(alloc: Global, bytes: &[u8]) -> Result<Option<Node>, NoMemory>
-    ensures { IfOk result (λ read. MatchOption read (IsNoPage bytes.now) (λ node. (length bytes.now ≤ page_bytes) × Derives (page 127) (tokens 0 bytes.now) node stop)) }
-{
-    if PAGE_BYTES < bytes.len() {
-        return Ok(None);
-    }
-    let mut reader = Reader {
-        rest: bytes,
-        at: 0,
-        is_over: false,
-    };
-    match reader.page(alloc, LEVELS_BELOW) {
-        Ok(node) => Ok(Some(node)),
-        Err(ReadError::Misfit) => Ok(None),
-        Err(ReadError::Memory) => Err(AllocError),
-    }
-}
-
-#[cfg(test)]
-mod tests;

@@ -25,3 +25,19 @@ fn escapes(rt: HostRuntime) -> Result<(), Fail> {
     assert!(rt; is_written(alloc, b"if (a < b && c) {}", true, b"if (a < b && c) {}")?);
     Ok(())
 }
+
+fn is_value(alloc: Global, word: &[u8], wanted: &[u8]) -> Result<bool, NoMemory> {
+    let written = value_bytes(alloc, units_of(alloc, word)?.as_slice())?;
+    Ok(written.as_slice() == wanted)
+}
+
+// As HTML's serialization escapes a value, where `<` and `>` are escaped besides.
+#[test]
+fn escapes_values(rt: HostRuntime) -> Result<(), Fail> {
+    let alloc = rt.alloc();
+    assert!(rt; is_value(alloc, b"", b"")?);
+    assert!(rt; is_value(alloc, b"it's plain", b"it's plain")?);
+    assert!(rt; is_value(alloc, b"a<b>&\"c", b"a&lt;b&gt;&amp;&quot;c")?);
+    assert!(rt; is_value(alloc, b"&quot;", b"&amp;quot;")?);
+    Ok(())
+}

@@ -10,7 +10,7 @@ use Rattle.cromhost.proofs.stream.serve_stream.Goals as goal
 pub loop-wire-init : goal.loop-wire-init
 loop-wire-init g c = record {
   progress = started _ _ _ _ _ c.new-wire.ensures;
-  ready = c.requires.ready;
+  sound = c.requires.sound;
   source = refl;
   sink = refl;
   bound = search rules;
@@ -54,7 +54,7 @@ loop-wire-preserved g c =
     all ∙ ap (after (g.W.Sink.told c.loop-wire.sink)) (c.as_slice.ensures.value ∙ step.2) in
     record {
       progress = went_on _ _ _ _ _ _ _ _ _ _ _ _ says.0 _ step.0 c.loop-wire.invariant.progress says.1 says.2 step.1 went refl;
-      ready = c.in_ok-reply-in-Request.ensures.ready;
+      sound = c.in_ok-reply-in-Request.ensures.sound;
       source = grind (arith, common_steps);
       sink = grind (arith, common_steps);
       bound = omega arith;

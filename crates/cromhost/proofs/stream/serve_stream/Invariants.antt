@@ -1,7 +1,7 @@
 use Rattle.std.proofs.Common.{◌≡◌, ◌≤◌, ◌-◌}
 use Rattle.page_units.specs.Outside.{before}
 use Rattle.cell_heap.specs.Base.{heap_of}
-use Rattle.cromhost.specs.Ready.{IsReady}
+use Rattle.cell_places.specs.Sound.{IsSound}
 use Rattle.cromhost.specs.Stream.{Progress}
 use Rattle.cromhost.proofs.stream.serve_stream.Given as goal
 
@@ -12,7 +12,7 @@ invariant-loop-wire g l =
     let told = g.W.Sink.told in
     record {
       progress : Progress (heap_of l.fn.base) (heap_of l.base) l.fn.served l.served (left l.fn.source) (before l.wire.held.items (left l.source)) (told l.fn.sink) (told l.sink);
-      ready : IsReady (heap_of l.base);
+      sound : IsSound 0 (heap_of l.base);
       source : g.S.Source.faults l.source ≡ g.S.Source.faults l.fn.source;
       sink : g.W.Sink.faults l.sink ≡ g.W.Sink.faults l.fn.sink;
       bound : l.served ≤ l.most;

@@ -1,18 +1,10 @@
-use Rattle.std.proofs.Common.{◌∙◌, ap, ℕ, List, ◌++◌, ◌+◌, ◌<◌, length, arith}
+use Rattle.std.proofs.Common.{◌∙◌, ap, ◌+◌, ◌<◌, length, arith}
+use Rattle.std.proofs.lemmas.Result.{IfOk-weaker}
 use Rattle.cell_places.specs.Heap.{text_in}
 use Rattle.cell_places.specs.declared.kind.CellKind.TheVariants.{Chars}
 use Rattle.cell_places.specs.View.{heap}
-use Rattle.dom_tree.proofs.Nodes.{kind_found, tested, chars_say, chars_long}
+use Rattle.dom_tree.proofs.Nodes.{kind_found, chars_say, chars_long}
 use Rattle.dom_tree.proofs.serialize.append_chars.Goals as goal
-
--- the text of the node is what stands there
-pub returns-clause-text : goal.returns-clause-text
-returns-clause-text g c =
-    chars_say (heap (g.C.Cells.seen c.args.cells.now)) c.args.raw c.is_within.result c.args.node c.args.most c.args.out.now.items c.extend_from_slice.new.self.items c.units_of-units.result.now
-    (kind_found (heap (g.C.Cells.seen c.args.cells.now)) c.args.node Chars c.requires.kind)
-    (c.units_of-units.ensures ∙ ap text_in c.in_ok-answer.ensures.answer)
-    (c.in_ok-extend_from_slice.ensures.items ∙ ap (λ (z : List ℕ). c.args.out.now.items ++ z) (c.deref.ensures.value ∙ c.in_ok-written.ensures))
-    (tested _ _ _ _ c.deref-2.ensures.value c.is_within.ensures)
 
 -- it has more units than there is room for bytes
 pub returns-then-units-most-clause-text : goal.returns-then-units-most-clause-text
@@ -21,3 +13,15 @@ returns-then-units-most-clause-text g c =
     chars_long (heap (g.C.Cells.seen c.args.cells.now)) c.args.raw c.args.node c.args.most c.args.out.now.items c.args.out.now.items c.units_of-units.result.now
     (kind_found (heap (g.C.Cells.seen c.args.cells.now)) c.args.node Chars c.requires.kind)
     (c.units_of-units.ensures ∙ ap text_in c.in_ok-answer.ensures.answer) long
+
+-- the text of the node is what stands there
+pub returns-clause-text : goal.returns-clause-text
+returns-clause-text g c =
+    let H = heap (g.C.Cells.seen c.args.cells.now) in
+    IfOk-weaker c.append.result _ _
+    (λ whole appended. chars_say H c.args.raw whole c.args.node c.args.most c.args.out.now.items c.append.new.out.items c.units_of-units.result.now c.deref.result.now
+    (kind_found H c.args.node Chars c.requires.kind)
+    (c.units_of-units.ensures ∙ ap text_in c.in_ok-answer.ensures.answer)
+    (c.deref.ensures.value ∙ c.in_ok-written.ensures)
+    appended)
+    c.append.ensures

@@ -1,50 +1,52 @@
-use Rattle.std.proofs.Common.{[], ◌∷◌}
+use Rattle.std.proofs.Common.{[], ◌∷◌, rules}
 use Rattle.cell_places.proofs.Runs.{Rooted-refl}
 use Rattle.page_reader.specs.NodeTrees.{trees_of}
-use Rattle.page_reader.proofs.PagePlanted.{page_of, can_root, read_is, read_sound, read_sums}
+use Rattle.page_reader.proofs.Laws.{one_page}
+use Rattle.page_reader.proofs.PagePlanted.{can_root, read_is, read_sound, read_sums}
 use Rattle.page_reader.proofs.page.read_page.Goals as goal
 
-pub returns-in_err-root-clause-rooted : goal.returns-in_err-root-clause-rooted
-returns-in_err-root-clause-rooted g c = Rooted-refl _
+pub returns-in_err-page-clause-only : goal.returns-in_err-page-clause-only
+returns-in_err-page-clause-only g c trees scripts page = let h = c.in_err-page.ensures.only trees scripts page in search rules
 
-pub returns-in_default-clause-rooted : goal.returns-in_default-clause-rooted
-returns-in_default-clause-rooted g c = Rooted-refl _
+pub returns-in_err-page-clause-rooted : goal.returns-in_err-page-clause-rooted
+returns-in_err-page-clause-rooted g c = Rooted-refl _
 
 -- the root can be planted
 pub plant-requires-clause-document : goal.plant-requires-clause-document
 plant-requires-clause-document g c =
-    let page = page_of c.args.bytes.now c.in-Some.root (rw c.in-Some.is at c.in_ok-root.ensures) in
-    (can_root c.requires.sound.0 (g.C.Cells.seen c.args.cells.now) c.args.bytes.now c.in-Some.root c.requires.sound.1 c.requires.room page).document
+    (can_root c.requires.sound.0 (g.C.Cells.seen c.args.cells.now) c.args.bytes.now c.in_ok-page.page.root c.in_ok-page.page.scripts.items c.requires.sound.1 c.requires.room c.in_ok-page.ensures.found).document
 
 pub plant-requires-clause-prototype : goal.plant-requires-clause-prototype
 plant-requires-clause-prototype g c =
-    let page = page_of c.args.bytes.now c.in-Some.root (rw c.in-Some.is at c.in_ok-root.ensures) in
-    (can_root c.requires.sound.0 (g.C.Cells.seen c.args.cells.now) c.args.bytes.now c.in-Some.root c.requires.sound.1 c.requires.room page).prototype
+    (can_root c.requires.sound.0 (g.C.Cells.seen c.args.cells.now) c.args.bytes.now c.in_ok-page.page.root c.in_ok-page.page.scripts.items c.requires.sound.1 c.requires.room c.in_ok-page.ensures.found).prototype
 
 pub plant-requires-clause-room : goal.plant-requires-clause-room
 plant-requires-clause-room g c =
-    let page = page_of c.args.bytes.now c.in-Some.root (rw c.in-Some.is at c.in_ok-root.ensures) in
-    (can_root c.requires.sound.0 (g.C.Cells.seen c.args.cells.now) c.args.bytes.now c.in-Some.root c.requires.sound.1 c.requires.room page).room
+    (can_root c.requires.sound.0 (g.C.Cells.seen c.args.cells.now) c.args.bytes.now c.in_ok-page.page.root c.in_ok-page.page.scripts.items c.requires.sound.1 c.requires.room c.in_ok-page.ensures.found).room
 
-pub plant-requires-clause-plain : goal.plant-requires-clause-plain
-plant-requires-clause-plain g c =
-    let page = page_of c.args.bytes.now c.in-Some.root (rw c.in-Some.is at c.in_ok-root.ensures) in
-    (can_root c.requires.sound.0 (g.C.Cells.seen c.args.cells.now) c.args.bytes.now c.in-Some.root c.requires.sound.1 c.requires.room page).plain
+pub plant-requires-clause-once : goal.plant-requires-clause-once
+plant-requires-clause-once g c =
+    (can_root c.requires.sound.0 (g.C.Cells.seen c.args.cells.now) c.args.bytes.now c.in_ok-page.page.root c.in_ok-page.page.scripts.items c.requires.sound.1 c.requires.room c.in_ok-page.ensures.found).once
 
 -- the page is read
 pub returns-clause-page : goal.returns-clause-page
 returns-clause-page g c =
-    let page = page_of c.args.bytes.now c.in-Some.root (rw c.in-Some.is at c.in_ok-root.ensures) in (
-      read_is c.requires.sound.0 (g.C.Cells.seen c.args.cells.now) (g.C.Cells.seen c.plant.new.cells) c.args.bytes.now (trees_of (c.in-Some.root ∷ [])) c.requires.sound.1 c.requires.empty page c.in_ok-plant.ensures.acts,
-      c.new.ensures.items,
-    )
+    read_is c.requires.sound.0 (g.C.Cells.seen c.args.cells.now) (g.C.Cells.seen c.plant.new.cells) c.args.bytes.now (trees_of (c.in_ok-page.page.root ∷ [])) c.in_ok-page.page.scripts.items c.requires.sound.1 c.requires.empty c.in_ok-page.ensures.found c.in_ok-plant.ensures.acts
 
 pub returns-clause-sound : goal.returns-clause-sound
 returns-clause-sound g c codes sound =
-    let page = page_of c.args.bytes.now c.in-Some.root (rw c.in-Some.is at c.in_ok-root.ensures) in
-    read_sound codes (g.C.Cells.seen c.args.cells.now) (g.C.Cells.seen c.plant.new.cells) c.args.bytes.now (trees_of (c.in-Some.root ∷ [])) sound c.requires.empty c.requires.room page c.in_ok-plant.ensures.acts
+    read_sound codes (g.C.Cells.seen c.args.cells.now) (g.C.Cells.seen c.plant.new.cells) c.args.bytes.now (trees_of (c.in_ok-page.page.root ∷ [])) c.in_ok-page.page.scripts.items sound c.requires.empty c.requires.room c.in_ok-page.ensures.found c.in_ok-plant.ensures.acts
 
 pub returns-clause-sums : goal.returns-clause-sums
 returns-clause-sums g c bound sums =
-    let page = page_of c.args.bytes.now c.in-Some.root (rw c.in-Some.is at c.in_ok-root.ensures) in
-    read_sums bound (g.C.Cells.seen c.args.cells.now) (g.C.Cells.seen c.plant.new.cells) c.args.bytes.now (trees_of (c.in-Some.root ∷ [])) sums page c.in_ok-plant.ensures.acts
+    read_sums bound (g.C.Cells.seen c.args.cells.now) (g.C.Cells.seen c.plant.new.cells) c.args.bytes.now (trees_of (c.in_ok-page.page.root ∷ [])) c.in_ok-page.page.scripts.items sums c.in_ok-page.ensures.found c.in_ok-plant.ensures.acts
+
+-- a page has one tree
+pub returns-clause-one : goal.returns-clause-one
+returns-clause-one g c = one_page c.args.bytes.now
+
+pub returns-in_err-page-clause-one : goal.returns-in_err-page-clause-one
+returns-in_err-page-clause-one g c = one_page c.args.bytes.now
+
+pub returns-in_err-plant-clause-one : goal.returns-in_err-plant-clause-one
+returns-in_err-plant-clause-one g c = one_page c.args.bytes.now

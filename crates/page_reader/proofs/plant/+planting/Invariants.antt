@@ -5,7 +5,7 @@ use Rattle.cell_places.specs.View.{heap, run}
 use Rattle.cell_places.specs.Valid.{CanAsk}
 use Rattle.cell_places.specs.Rooted.{Rooted}
 use Rattle.cell_places.specs.Start.{node_prototype}
-use Rattle.dom_tree.specs.Trees.{HaveNoAttributes, none}
+use Rattle.dom_tree.specs.Trees.{HaveNamesOnce, none}
 use Rattle.page_reader.specs.NodeTrees.{node_tree, trees_of}
 use Rattle.page_reader.specs.Planting.{node_count, root_names, trees_acts}
 use Rattle.page_reader.proofs.plant.+planting.Given as goal
@@ -22,7 +22,7 @@ invariant-plant_siblings-siblings g l = record {
   prototype : node_prototype.0 < length (heap (g.C.Cells.seen l.cells)).kinds;
   few : node_count (trees_of (drop l.node-index l.fn.nodes)) ≤ node_count (trees_of l.fn.nodes);
   room : length (heap (g.C.Cells.seen l.cells)).kinds + node_count (trees_of (drop l.node-index l.fn.nodes)) ≤ 4000000000;
-  plain : HaveNoAttributes (trees_of (drop l.node-index l.fn.nodes));
+  once : HaveNamesOnce (trees_of (drop l.node-index l.fn.nodes));
   acts : run (g.C.Cells.seen l.fn.cells) (trees_acts l.parent (length (heap (g.C.Cells.seen l.fn.cells)).kinds) (trees_of l.fn.nodes))
       ≡ run (g.C.Cells.seen l.cells) (trees_acts l.parent (length (heap (g.C.Cells.seen l.cells)).kinds) (trees_of (drop l.node-index l.fn.nodes)));
   names : root_names (length (heap (g.C.Cells.seen l.fn.cells)).kinds) (trees_of l.fn.nodes)

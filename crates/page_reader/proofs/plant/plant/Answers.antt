@@ -17,7 +17,7 @@ put_children-requires-clause-node g c =
 pub put_children-requires-clause-names : goal.put_children-requires-clause-names
 put_children-requires-clause-names g c =
     let old = g.C.Cells.seen c.args.cells.now in
-    names_below old (g.C.Cells.seen c.plant_node.new.cells) document_cell (node_tree c.args.root.now none) c.push.new.self.items c.requires.plain c.in_ok-node.ensures.acts
+    names_below old (g.C.Cells.seen c.plant_node.new.cells) document_cell (node_tree c.args.root.now none) c.push.new.self.items c.requires.once c.in_ok-node.ensures.acts
     (root_named old c.args.root.now c.in_ok-node.node c.in_ok-names.names.items c.push.new.self.items c.in_ok-names.ensures.items c.in_ok-push.ensures.items c.in_ok-node.ensures.name)
 
 pub returns-clause-acts : goal.returns-clause-acts

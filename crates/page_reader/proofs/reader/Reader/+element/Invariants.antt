@@ -1,8 +1,8 @@
 use Rattle.std.proofs.Common.{◌≡◌, ◌+◌, ◌*◌, length}
 use Rattle.grammar.specs.Grammar.{again}
 use Rattle.grammar.specs.Reading.{read, and_then}
-use Rattle.page_reader.specs.Bytes.{stop}
-use Rattle.page_reader.specs.PageForm as form
+use Rattle.placed_chars.specs.Chars.{stop}
+use Rattle.page_reader.specs.Content as form
 use Rattle.page_reader.specs.Reads.{content}
 use Rattle.page_reader.proofs.reader.Reader.+element.Given as goal
 
@@ -26,8 +26,8 @@ decreases-element l = 8 * l.room + 5
 
 abbrev pub invariant-full_body-pieces : goal.invariant-full_body-pieces
 invariant-full_body-pieces l = record {
-  reading : read stop (form.full_body (form.opened l.room) l.fn.tag) l.fn.self
-      ≡ and_then (read stop (again form.content_goes (form.piece (form.opened l.room) l.fn.tag) (content l.is_closed l.children l.text)) l.self) (λ c r. read stop (form.ended l.fn.tag c) r);
+  reading : read stop (form.full_body (form.opened l.room) l.tag_at l.fn.tag l.started l.fn.scripts) l.fn.self
+      ≡ and_then (read stop (again form.content_goes (form.piece (form.opened l.room) l.tag_at l.fn.tag) (content l.is_closed l.children l.units.items l.scripts)) l.self) (λ c r. read stop (form.ended l.tag_at l.fn.tag l.started.attributes c) r);
 }
 
 abbrev pub decreases-full_body-pieces : goal.decreases-full_body-pieces

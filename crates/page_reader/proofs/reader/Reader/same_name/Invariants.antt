@@ -1,8 +1,8 @@
 use Rattle.std.proofs.Common.{◌≡◌, drop}
 use Rattle.grammar.specs.Reading.{read}
-use Rattle.page_reader.specs.Bytes.{stop}
-use Rattle.page_reader.specs.PageForm as form
+use Rattle.placed_chars.specs.Chars.{stop}
+use Rattle.page_reader.specs.Tags as form
 use Rattle.page_reader.proofs.reader.Reader.same_name.Given as goal
 
-abbrev pub invariant-loop-c : goal.invariant-loop-c
-invariant-loop-c l = read stop (form.same_name l.fn.name) l.fn.self ≡ read stop (form.same_name (drop l.c-index l.fn.name)) l.self
+abbrev pub invariant-loop-letter : goal.invariant-loop-letter
+invariant-loop-letter l = read stop (form.same_name l.fn.at l.fn.name) l.fn.self ≡ read stop (form.same_name l.fn.at (drop l.letter-index l.fn.name)) l.self

@@ -1,0 +1,8 @@
+use Rattle.std.proofs.Common.{◌≡◌, drop}
+use Rattle.grammar.specs.Reading.{read}
+use Rattle.placed_chars.specs.Chars.{stop}
+use Rattle.page_reader.specs.PageForm as form
+use Rattle.page_reader.proofs.reader.Reader.word.Given as goal
+
+abbrev pub invariant-loop-letter : goal.invariant-loop-letter
+invariant-loop-letter l = read stop (form.word l.fn.at l.fn.letters) l.fn.self ≡ read stop (form.word l.fn.at (drop l.letter-index l.fn.letters)) l.self
