@@ -1,5 +1,5 @@
 -- The bytes ahead: those that are held, and then what is left of the source.
-use Rattle.std.proofs.Common.{◌≡◌, ◌+◌, ◌-◌, ℕ, List, [], ◌++◌, length, take, drop, slice_range, Option, Some, None, refl, ap, sym, subst, ◌∙◌, arith, inl, inr, length-append, length-drop, length-take, append_assoc}
+use Rattle.std.proofs.Common.{◌≡◌, ◌+◌, ◌-◌, ℕ, List, [], ◌∷◌, ◌++◌, length, take, drop, slice_range, Option, Some, None, refl, ap, sym, subst, ◌∙◌, arith, inl, inr, length-append, length-drop, length-take, append_assoc}
 use Rattle.std.proofs.lemmas.Bool.{cases_lt}
 use Rattle.std.proofs.lemmas.List.{append-nil, take-append-drop, take-append-le, take_all, drop-drop}
 use Rattle.std.proofs.Math.Seq.{take-append-add}
@@ -9,9 +9,10 @@ use Rattle.httparse.specs.Grammar.{RequestHead, print_request, HasNoRequest, Nev
 use Rattle.httparse.specs.Spans.{span_bytes}
 use Rattle.httparse.proofs.GrammarLemmas.{ReadsRequest-append}
 use Rattle.http_wire.specs.declared.held.Whole.{Whole}
-use Rattle.http_wire.specs.declared.request.Refusal.{Refusal}
+use Rattle.wire_asks.specs.declared.asked.Refusal.{Refusal}
 use Rattle.http_wire.specs.Messages.{Message, BeginsHead, BeginsMessage, IsMessage}
-use Rattle.http_wire.specs.Outcomes.{look, Refuses, NextOf, request, refused, bad_head, long_head, no_body}
+use Rattle.http_wire.specs.Outcomes.{look, Refuses, bad_head, long_head, no_body}
+use Rattle.http_wire.specs.Requests.{Ending, refused, EndsAs, RequestsOf, more, stop}
 use Rattle.http_wire.specs.Held.{WholeIs}
 
 -- what is told goes on behind what was read
@@ -25,7 +26,7 @@ before_before None xs ys = refl
 before_before (Some rest) xs ys = ap Some (sym (append_assoc xs ys rest))
 
 -- more bytes only go on with what is looked at
-look_more : (held rest : List ℕ) → (more : List ℕ) × (look (held ++ rest) ≡ look held ++ more)
+look_more : (held rest : List ℕ) → (further : List ℕ) × (look (held ++ rest) ≡ look held ++ further)
 look_more held rest =
     elim (cases_lt (length held) 16384) [
       | inl few ↦
@@ -37,19 +38,19 @@ look_more held rest =
 
 -- what never becomes a head does not by the bytes that came
 never_more : (bytes came : List ℕ) → NeverHasRequest bytes → NeverHasRequest (bytes ++ came)
-never_more bytes came never = λ more. subst HasNoRequest (sym (append_assoc bytes came more)) (never (came ++ more))
+never_more bytes came never = λ further. subst HasNoRequest (sym (append_assoc bytes came further)) (never (came ++ further))
 
 -- a head stays where it is
-head_more : (bytes more : List ℕ) (h : RequestHead) (behind : List ℕ) → BeginsHead bytes h behind → BeginsHead (bytes ++ more) h (behind ++ more)
-head_more bytes more h behind head = record { reads = ReadsRequest-append bytes h behind more head.reads; fits = head.fits }
+head_more : (bytes came : List ℕ) (h : RequestHead) (behind : List ℕ) → BeginsHead bytes h behind → BeginsHead (bytes ++ came) h (behind ++ came)
+head_more bytes came h behind head = record { reads = ReadsRequest-append bytes h behind came head.reads; fits = head.fits }
 
 -- a request stays where it is
-pub message_more : (bytes more rest : List ℕ) (m : Message) → BeginsMessage bytes m rest → BeginsMessage (bytes ++ more) m (rest ++ more)
-message_more bytes more rest m begins =
-    let head = head_more bytes more begins.h (m.body ++ rest) begins.head in
+pub message_more : (bytes came rest : List ℕ) (m : Message) → BeginsMessage bytes m rest → BeginsMessage (bytes ++ came) m (rest ++ came)
+message_more bytes came rest m begins =
+    let head = head_more bytes came begins.h (m.body ++ rest) begins.head in
     record {
       h = begins.h;
-      head = subst (BeginsHead (bytes ++ more) begins.h) (append_assoc m.body rest more) head;
+      head = subst (BeginsHead (bytes ++ came) begins.h) (append_assoc m.body rest came) head;
       length_is = begins.length_is;
       method = begins.method;
       target = begins.target;
@@ -57,9 +58,12 @@ message_more bytes more rest m begins =
       close = begins.close;
     }
 
--- a request that was taken comes next of the bytes that it was taken from
-pub message_next : (front rest : List ℕ) (m : Message) → IsMessage front m → NextOf (front ++ rest) (request m rest)
-message_next front rest m whole = message_more front rest [] m whole
+-- a request that was taken is the first of the bytes that it was taken from
+pub request_first : (ahead ahead' : Option (List ℕ)) (front bytes rest : List ℕ) (m : Message) → IsMessage front m → ahead ≡ before front ahead' → ahead ≡ Some bytes → ahead' ≡ Some rest → (others : List Message) (ending : Ending) → RequestsOf rest others ending → RequestsOf bytes (m ∷ others) ending
+request_first ahead ahead' front bytes rest m whole split told told' others ending behind =
+    let some : Some bytes ≡ Some (front ++ rest) = sym told ∙ split ∙ ap (before front) told' in
+    let same : front ++ rest ≡ bytes = cc in
+    more bytes rest m others ending (subst (λ (z : List ℕ). BeginsMessage z m rest) same (message_more front rest [] m whole)) behind
 
 -- what the held bytes refuse, all bytes refuse
 pub refuses_more : (held rest : List ℕ) (refusal : Refusal) → Refuses held refusal → Refuses (held ++ rest) refusal
@@ -72,10 +76,17 @@ refuses_more held rest refusal (long_head _ many none open_yet) =
 refuses_more held rest refusal (no_body _ h behind _ head told) = no_body (held ++ rest) h (behind ++ rest) refusal (head_more held rest h behind head) told
 
 -- a refusal of what is held is one of all bytes ahead
-pub refuses_ahead : (held : List ℕ) (left ahead : Option (List ℕ)) (refusal : Refusal) → before held left ≡ ahead → Refuses held refusal → (bytes : List ℕ) → ahead ≡ Some bytes → NextOf bytes (refused refusal)
-refuses_ahead held left ahead refusal same shown bytes told =
+pub refused_ahead : (held : List ℕ) (left ahead : Option (List ℕ)) (refusal : Refusal) → before held left ≡ ahead → Refuses held refusal → (bytes : List ℕ) → ahead ≡ Some bytes → RequestsOf bytes [] (refused refusal)
+refused_ahead held left ahead refusal same shown bytes told =
     let q = before_some held left bytes (same ∙ told) in
-    subst (λ (z : List ℕ). Refuses z refusal) (sym q.2) (refuses_more held q.0 refusal shown)
+    stop bytes (refused refusal) (subst (λ (z : List ℕ). Refuses z refusal) (sym q.2) (refuses_more held q.0 refusal shown))
+
+-- where nothing is left of the source, the bytes ahead are those that are held
+pub ended_ahead : (held : List ℕ) (left ahead : Option (List ℕ)) (ending : Ending) → before held left ≡ ahead → EndsAs held ending → ((bytes : List ℕ) → left ≡ Some bytes → bytes ≡ []) → (bytes : List ℕ) → ahead ≡ Some bytes → RequestsOf bytes [] ending
+ended_ahead held left ahead ending same shown over bytes told =
+    let q = before_some held left bytes (same ∙ told) in
+    let all : held ≡ bytes = sym (q.2 ∙ ap (λ (z : List ℕ). held ++ z) (over q.0 q.1) ∙ append-nil held) in
+    stop bytes ending (subst (λ (z : List ℕ). EndsAs z ending) all shown)
 
 -- a request is taken from the front of what is held
 pub message_taken : (held rest : List ℕ) (w : Whole) (m : Message) → WholeIs held w → m.method ≡ span_bytes held w.spans.method → m.target ≡ span_bytes held w.spans.path → m.minor ≡ w.spans.version → m.close ≡ w.close

@@ -9,7 +9,7 @@ use Rattle.httparse.specs.declared.spans.RequestSpans.{RequestSpans}
 use Rattle.httparse.specs.Grammar.{RequestHead, print_request, ReadsRequest, HasNoRequest, NeverHasRequest, MayBecomeRequest}
 use Rattle.httparse.specs.Spans.{span_bytes, header_bytes, IsRequestAt, IsRequestOf, IsRequestWithin}
 use Rattle.httparse.proofs.GrammarLemmas.{ReadsRequest-append}
-use Rattle.http_wire.specs.declared.request.Refusal.{Refusal}
+use Rattle.wire_asks.specs.declared.asked.Refusal.{Refusal}
 use Rattle.http_wire.specs.declared.held.Whole.{Whole}
 use Rattle.http_wire.specs.Fields.{body_length, closes}
 use Rattle.http_wire.specs.Messages.{BeginsHead, length_behind}

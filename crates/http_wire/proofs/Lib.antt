@@ -4,4 +4,7 @@ pub mod Parts
 pub mod Heads
 pub mod Limits
 pub mod Ahead
+pub mod Reading
 pub mod Unique
+pub mod Wired
+pub mod Wholes

@@ -1,12 +1,14 @@
 -- The limit of a body.
-use Rattle.std.proofs.Common.{◌≡◌, ℕ, ◌≤◌, Bool, true, false, nat_le, cond, List, [], ◌∷◌, length, codes, refl, arith}
+use Rattle.std.proofs.Common.{◌≡◌, ℕ, ◌+◌, ◌<◌, ◌≤◌, ap, ◌∙◌, length-append, Bool, true, false, nat_le, cond, List, [], ◌∷◌, length, codes, refl, arith}
 use Rattle.std.proofs.lemmas.Bool.{leb-true}
 use Rattle.std.specs.Prelude.{Result, Ok, Err}
 use Rattle.std.specs.Str.{bytes_eq}
 use Rattle.std.specs.Str.Parse.{digits_value}
-use Rattle.http_wire.specs.declared.request.Refusal.{Refusal}
-use Rattle.http_wire.specs.declared.request.Refusal.TheVariants.{BadLength, TooLarge, NoLength}
+use Rattle.wire_asks.specs.declared.asked.Refusal.{Refusal}
+use Rattle.wire_asks.specs.declared.asked.Refusal.TheVariants.{BadLength, TooLarge, NoLength}
 use Rattle.http_wire.specs.Fields.{NameValue, values_named, is_length, length_of, length_unless_coded, body_length}
+use Rattle.httparse.specs.Grammar.{print_request}
+use Rattle.http_wire.specs.Outcomes.{IsUnfinished, in_head, in_body}
 use Rattle.http_wire.specs.Messages.{Message, BeginsMessage, fields_of}
 
 -- a length, as an answer
@@ -46,3 +48,11 @@ body_limit method fields count e = coded_limit (values_named (codes "transfer-en
 -- a request's body has at most 65,536 bytes
 pub message_limit : (bytes rest : List ℕ) (m : Message) → BeginsMessage bytes m rest → length m.body ≤ 65536
 message_limit bytes rest m begins = body_limit begins.h.method (fields_of begins.h) (length m.body) begins.length_is
+
+-- an unfinished request is short of what is held at the most
+pub unfinished_short : (held : List ℕ) → IsUnfinished held → length held < 81920
+unfinished_short held (in_head _ few none may) = omega (arith, few)
+unfinished_short held (in_body _ h behind count head told short) =
+    let small : count ≤ 65536 = body_limit h.method (fields_of h) count told in
+    let long : length held ≡ length (print_request h) + length behind = ap length head.reads.1 ∙ length-append (print_request h) behind in
+    omega (arith, small, long, short, head.fits)

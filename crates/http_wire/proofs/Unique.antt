@@ -1,4 +1,5 @@
--- What comes next of the bytes is one thing, but for a head that ends inside its target and that no bytes can complete.
+-- The requests of a stream are one list, and it ends in one way, but for a head that ends inside its target and that no
+-- bytes can complete.
 use Rattle.std.proofs.Common.{◌≡◌, ◌≢◌, ◌+◌, ◌-◌, ◌⊎◌, ℕ, ◌≤◌, List, [], ◌∷◌, ◌++◌, length, take, drop, refl, ap, sym, subst, ◌∙◌, arith, inl, inr, length-append}
 use Rattle.std.proofs.lemmas.List.{append-nil, take_at, drop_at, take_all}
 use Rattle.std.proofs.Math.Seq.{take-append-add}
@@ -9,9 +10,10 @@ use Rattle.httparse.proofs.OnLiterals.{httparse_on_literals}
 use Rattle.std.proofs.lemmas.List.Elements.{All-nil, All-cons}
 use Rattle.std.specs.Prelude.{IsTrue, ◌*◌}
 use Rattle.http_wire.proofs.Room.{head_length}
-use Rattle.http_wire.specs.declared.request.Refusal.{Refusal}
+use Rattle.wire_asks.specs.declared.asked.Refusal.{Refusal}
 use Rattle.http_wire.specs.Messages.{Message, BeginsHead, BeginsMessage, length_behind, fields_of}
-use Rattle.http_wire.specs.Outcomes.{look, Refuses, IsUnfinished, Outcome, NextOf, request, refused, ended, truncated, bad_head, long_head, no_body, in_head, in_body}
+use Rattle.http_wire.specs.Outcomes.{look, Refuses, IsUnfinished, bad_head, long_head, no_body, in_head, in_body}
+use Rattle.http_wire.specs.Requests.{Ending, refused, ended, truncated, EndsAs, RequestsOf, more, stop}
 use Rattle.http_wire.specs.Fields.{closes}
 
 -- two heads at the front are one
@@ -91,7 +93,7 @@ unfinished_or_refused bytes a (in_body _ h behind count head told short) (no_bod
     absurd (cc same)
 
 -- a whole request isn't refused
-whole_or_refused : (bytes rest : List ℕ) (m : Message) (a : Refusal) → BeginsMessage bytes m rest → Refuses bytes a → ⊥
+pub whole_or_refused : (bytes rest : List ℕ) (m : Message) (a : Refusal) → BeginsMessage bytes m rest → Refuses bytes a → ⊥
 whole_or_refused bytes rest m a x (bad_head _ never) = none_seen bytes x.h _ x.head (never_none (look bytes) never)
 whole_or_refused bytes rest m a x (long_head _ many none may) = none_seen bytes x.h _ x.head none
 whole_or_refused bytes rest m a x (no_body _ k other _ head told) =
@@ -133,28 +135,42 @@ head_has_bytes bytes h behind head none =
     omega (arith, long, ap length none, ap length head.reads.1, length-append (print_request h) behind)
 
 -- what is refused has a byte
-refused_has_bytes : (bytes : List ℕ) (a : Refusal) → Refuses bytes a → bytes ≢ []
+pub refused_has_bytes : (bytes : List ℕ) (a : Refusal) → Refuses bytes a → bytes ≢ []
 refused_has_bytes bytes a (bad_head _ never) none = nothing_may (subst (λ (z : List ℕ). NeverHasRequest (look z)) none never)
 refused_has_bytes bytes a (long_head _ many without may) none = omega (arith, many, ap length none)
 refused_has_bytes bytes a (no_body _ h behind _ head told) none = head_has_bytes bytes h behind head none
 
--- what comes next is one thing, but for the open choice
-pub next_unique : (bytes : List ℕ) (a b : Outcome) → NextOf bytes a → NextOf bytes b → (a ≡ b) ⊎ EndsInTarget (look bytes)
-next_unique bytes (request m rest) (request k other) x y =
-    let same = message_unique bytes rest other m k x y in
-    inl (λ i. request (same.0 i) (same.1 i))
-next_unique bytes (request m rest) (refused b) x y = absurd (whole_or_refused bytes rest m b x y)
-next_unique bytes (request m rest) ended x y = absurd (head_has_bytes bytes x.h (m.body ++ rest) x.head y)
-next_unique bytes (request m rest) truncated x y = absurd (whole_or_unfinished bytes rest m x y.1)
-next_unique bytes (refused a) (request k other) x y = absurd (whole_or_refused bytes other k a y x)
-next_unique bytes (refused a) (refused b) x y = elim (refusal_unique bytes a b x y) [ inl same ↦ inl (ap refused same) | inr target ↦ inr target ]
-next_unique bytes (refused a) ended x y = absurd (refused_has_bytes bytes a x y)
-next_unique bytes (refused a) truncated x y = inr (unfinished_or_refused bytes a y.1 x)
-next_unique bytes ended (request k other) x y = absurd (head_has_bytes bytes y.h (k.body ++ other) y.head x)
-next_unique bytes ended (refused b) x y = absurd (refused_has_bytes bytes b y x)
-next_unique bytes ended ended x y = inl refl
-next_unique bytes ended truncated x y = absurd (y.0 x)
-next_unique bytes truncated (request k other) x y = absurd (whole_or_unfinished bytes other k y x.1)
-next_unique bytes truncated (refused b) x y = inr (unfinished_or_refused bytes b x.1 y)
-next_unique bytes truncated ended x y = absurd (x.0 y)
-next_unique bytes truncated truncated x y = inl refl
+-- bytes that begin a request end no stream
+pub whole_or_ends : (bytes rest : List ℕ) (m : Message) (e : Ending) → BeginsMessage bytes m rest → EndsAs bytes e → ⊥
+whole_or_ends bytes rest m (refused refusal) x y = whole_or_refused bytes rest m refusal x y
+whole_or_ends bytes rest m ended x y = head_has_bytes bytes x.h (m.body ++ rest) x.head y
+whole_or_ends bytes rest m truncated x y = whole_or_unfinished bytes rest m x y.1
+
+-- the bytes end a stream in one way, but for the open choice
+pub ending_unique : (bytes : List ℕ) (e f : Ending) → EndsAs bytes e → EndsAs bytes f → (e ≡ f) ⊎ EndsInTarget (look bytes)
+ending_unique bytes (refused a) (refused b) x y = elim (refusal_unique bytes a b x y) [ inl same ↦ inl (ap refused same) | inr target ↦ inr target ]
+ending_unique bytes (refused a) ended x y = absurd (refused_has_bytes bytes a x y)
+ending_unique bytes (refused a) truncated x y = inr (unfinished_or_refused bytes a y.1 x)
+ending_unique bytes ended (refused b) x y = absurd (refused_has_bytes bytes b y x)
+ending_unique bytes ended ended x y = inl refl
+ending_unique bytes ended truncated x y = absurd (y.0 x)
+ending_unique bytes truncated (refused b) x y = inr (unfinished_or_refused bytes b x.1 y)
+ending_unique bytes truncated ended x y = absurd (x.0 y)
+ending_unique bytes truncated truncated x y = inl refl
+
+-- what is left behind these requests ends inside a target
+abbrev pub EndsInTargetBehind : List ℕ → List Message → Type 0
+EndsInTargetBehind bytes [] = EndsInTarget (look bytes)
+EndsInTargetBehind bytes (m ∷ others) = (rest : List ℕ) × BeginsMessage bytes m rest × EndsInTargetBehind rest others
+
+-- The requests of a stream are one list, and it ends in one way, but for the open choice.
+pub requests_unique : (bytes : List ℕ) (ms ks : List Message) (e f : Ending) → RequestsOf bytes ms e → RequestsOf bytes ks f → (ms ≡ ks) × ((e ≡ f) ⊎ EndsInTargetBehind bytes ms)
+requests_unique bytes _ _ e f (more _ rest m others _ x behind) (more _ other k others2 _ y behind2) =
+    let first = message_unique bytes rest other m k x y in
+    let again = requests_unique rest others others2 e f behind (subst (λ (z : List ℕ). RequestsOf z others2 f) (sym first.1) behind2) in (
+      (λ i. first.0 i ∷ again.0 i),
+      elim again.1 [ inl same ↦ inl same | inr target ↦ inr (rest, x, target) ],
+    )
+requests_unique bytes _ _ e f (more _ rest m others _ x behind) (stop _ _ y) = absurd (whole_or_ends bytes rest m f x y)
+requests_unique bytes _ _ e f (stop _ _ x) (more _ rest k others _ y behind) = absurd (whole_or_ends bytes rest k e y x)
+requests_unique bytes _ _ e f (stop _ _ x) (stop _ _ y) = (refl, ending_unique bytes e f x y)

@@ -5,8 +5,8 @@ use Rattle.std.specs.Char.{is_ascii_digit}
 use Rattle.std.specs.Str.{bytes_eq, str_eq_ignore_ascii_case}
 use Rattle.std.specs.Str.Parse.{digits_value}
 use Rattle.httparse.specs.Grammar.{trim_ows}
-use Rattle.http_wire.specs.declared.request.Refusal.{Refusal}
-use Rattle.http_wire.specs.declared.request.Refusal.TheVariants.{LeftOut, BadLength, TooLarge, NoLength}
+use Rattle.wire_asks.specs.declared.asked.Refusal.{Refusal}
+use Rattle.wire_asks.specs.declared.asked.Refusal.TheVariants.{LeftOut, BadLength, TooLarge, NoLength}
 
 -- a field: its name, and its value without the white space around it
 abbrev pub NameValue : Type 0

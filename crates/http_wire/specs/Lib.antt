@@ -1,5 +1,9 @@
 pub mod Fields
 pub mod Messages
 pub mod Outcomes
+pub mod Requests
 pub mod Held
 pub mod Answers
+pub mod Reading
+pub mod Incoming
+pub mod Wired

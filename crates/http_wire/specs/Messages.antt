@@ -3,7 +3,7 @@ use Rattle.std.specs.Prelude.{◌≡◌, ℕ, ◌≤◌, Bool, List, [], ◌++�
 use Rattle.httparse.specs.Grammar.{RequestHead, print_request, ReadsRequest}
 use Rattle.httparse.specs.Spans.{name_and_value}
 use Rattle.http_wire.specs.Fields.{NameValue, body_length, closes}
-use Rattle.http_wire.specs.declared.request.Refusal.{Refusal}
+use Rattle.wire_asks.specs.declared.asked.Refusal.{Refusal}
 use Rattle.http_wire.specs.declared.request.Request.{Request}
 
 -- a request: its head's method, target and minor version, whether it ends the connection, and its body

@@ -1,9 +1,9 @@
--- What comes next of the bytes, to the end of the stream: a request, a refusal or an end.
-use Rattle.std.specs.Prelude.{◌≡◌, ◌≢◌, ℕ, ◌<◌, ◌≤◌, Bool, true, List, [], length, take, Ok, Err}
+-- What the bytes are that begin no whole request: refused, or an unfinished one.
+use Rattle.std.specs.Prelude.{◌≡◌, ℕ, ◌<◌, ◌≤◌, List, length, take, Ok, Err}
 use Rattle.httparse.specs.Grammar.{RequestHead, HasNoRequest, NeverHasRequest, MayBecomeRequest}
-use Rattle.http_wire.specs.declared.request.Refusal.{Refusal}
-use Rattle.http_wire.specs.declared.request.Refusal.TheVariants.{BadHead, HeadTooLarge}
-use Rattle.http_wire.specs.Messages.{Message, BeginsHead, BeginsMessage, length_behind}
+use Rattle.wire_asks.specs.declared.asked.Refusal.{Refusal}
+use Rattle.wire_asks.specs.declared.asked.Refusal.TheVariants.{BadHead, HeadTooLarge}
+use Rattle.http_wire.specs.Messages.{BeginsHead, length_behind}
 
 -- the bytes in which a head is looked for: the first 16,384
 abbrev pub look : List ℕ → List ℕ
@@ -23,21 +23,3 @@ pub data Refuses : List ℕ → Refusal → Type 0 where
 pub data IsUnfinished : List ℕ → Type 0 where
   in_head : (bytes : List ℕ) → length bytes < 16384 → HasNoRequest bytes → MayBecomeRequest bytes → IsUnfinished bytes
   in_body : (bytes : List ℕ) (h : RequestHead) (behind : List ℕ) (count : ℕ) → BeginsHead bytes h behind → length_behind h ≡ Ok count → length behind < count → IsUnfinished bytes
-
-pub data Outcome : Type 0 where
-  -- a request, and the bytes behind it
-  request : Message → List ℕ → Outcome
-  refused : Refusal → Outcome
-  ended : Outcome
-  truncated : Outcome
-
--- what comes next of the bytes
-abbrev pub NextOf : List ℕ → Outcome → Type 0
-NextOf bytes (request m rest) = BeginsMessage bytes m rest
-NextOf bytes (refused refusal) = Refuses bytes refusal
-NextOf bytes ended = bytes ≡ []
-NextOf bytes truncated = (bytes ≢ []) × IsUnfinished bytes
-
--- the connection is closed behind each refusal
-abbrev pub refusal_closes : Refusal → Bool
-refusal_closes refusal = true

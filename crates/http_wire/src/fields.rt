@@ -7,8 +7,8 @@ ghost use Rattle.http_wire.specs.Held.{NamedIs};
 
 use crate::lengths::parse_length;
 use crate::options::{has_close_option, is_same_name};
-use crate::request::Refusal;
 use httparse::spans::{HeaderSpan, Span};
+use wire_asks::Refusal;
 
 /// The fields of one name.
 #[derive(Clone, Copy)]

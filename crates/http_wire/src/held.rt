@@ -5,8 +5,8 @@ ghost use Rattle.http_wire.specs.Held.{HeldIs};
 
 use crate::fields::{body_length_of, closes_behind};
 use crate::head::{HEAD_BYTES, Head, read_head};
-use crate::request::Refusal;
 use httparse::spans::{HeaderSpan, RequestSpans};
+use wire_asks::Refusal;
 
 /// Where the parts of a whole request are.
 #[derive(Clone, Copy)]

@@ -5,7 +5,7 @@ ghost use Rattle.std.specs.List.{list_all};
 ghost use Rattle.std.specs.Str.Parse.{digits_value};
 ghost use Rattle.http_wire.specs.Fields.{length_in};
 
-use crate::request::Refusal;
+use wire_asks::Refusal;
 
 /// The longest body that is read, in bytes.
 pub const BODY_BYTES: usize = 65_536;

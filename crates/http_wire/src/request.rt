@@ -1,6 +1,6 @@
 //! What is read of a stream.
-ghost use Rattle.std.specs.Prelude.{◌≡◌};
-ghost use Rattle.http_wire.specs.Outcomes.{refusal_closes};
+
+use wire_asks::Refusal;
 
 /// A request with its body.
 #[derive(Drop)]
@@ -18,35 +18,9 @@ pub struct Request {
     pub body: Vec<u8>,
 }
 
-/// Why a request isn't read. Each refusal closes the connection.
-#[derive(Clone, Copy, Debug, PartialEq, Eq)]
-pub enum Refusal {
-    /// No bytes that follow make the first 16,384 a head.
-    BadHead,
-    /// The head isn't whole in 16,384 bytes.
-    HeadTooLarge,
-    /// A Transfer-Encoding field.
-    LeftOut,
-    /// More than one Content-Length field, or a value that isn't 1 to 19 digits.
-    BadLength,
-    /// A Content-Length above 65,536.
-    TooLarge,
-    /// A POST without a Content-Length field.
-    NoLength,
-}
-
-impl Refusal {
-    /// Whether the connection is closed behind it.
-    pub fn closes(self) -> bool
-        ensures { result ≡ refusal_closes self }
-    {
-        true
-    }
-}
-
 /// What comes next of a stream.
 #[derive(Drop)]
-pub enum Next {
+pub enum Framed {
     /// A whole request.
     Request(Request),
     /// What comes is refused.

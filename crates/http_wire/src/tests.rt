@@ -1,39 +1,76 @@
-//! Streams in memory, in one piece and cut at every byte.
-ghost use Rattle.std.specs.Prelude.{◌<◌};
+//! Streams in memory, in pieces as long as fit, cut at every byte, and in pieces of one byte.
+ghost use Rattle.std.specs.Prelude.{◌<◌, IsTrue, IfOk};
+ghost use Rattle.page_units.specs.Memory.{are_pieces};
 
-use crate::{Next, Refusal, Request, Wire};
+use crate::framing::Frames;
+use crate::request::{Framed, Request};
 use page_units::{MemorySource, NoMemory};
 use std::alloc::Global;
+use std::process::Abort;
 use std::test::Fail;
+use wire_asks::Refusal;
 
-/// What the wire tells of a stream that comes in a first piece of so many bytes, and then in pieces
-/// as long as fit. The calls of `read` with the numbers in `fails`, from 1, fail.
-fn told(alloc: Global, bytes: &[u8], cut: usize, fails: Vec<u64>) -> Result<String, NoMemory>
-    requires { 0 < cut }
+/// So many bytes in pieces of this length, the last maybe shorter.
+fn pieces_of(alloc: Global, length: usize, count: usize) -> Result<Vec<usize>, NoMemory>
+    requires { 0 < length }
+    ensures { IfOk result (λ pieces. IsTrue (are_pieces pieces.items)) }
 {
-    let bytes = Vec::from_slice(alloc, bytes)?;
-    let mut source = MemorySource::new(bytes, vec![in alloc; cut]?, fails);
-    let mut wire = Wire::new(alloc)?;
+    let mut pieces = vec![in alloc; length; count / length]?;
+    if count % length > 0 {
+        pieces.push(count % length)?;
+    }
+    Ok(pieces)
+}
+
+/// What the framing tells of a stream that comes in these pieces, and then in pieces as long as fit.
+/// The calls of `read` with the numbers in `fails`, from 1, fail.
+fn told(
+    alloc: Global,
+    bytes: &[u8],
+    pieces: Vec<usize>,
+    fails: Vec<u64>,
+) -> Result<String, NoMemory>
+    requires { IsTrue (are_pieces pieces.items) }
+{
+    let mut source = MemorySource::new(Vec::from_slice(alloc, bytes)?, pieces, fails);
+    let mut frames = Frames::new(alloc)?;
     let mut text = String::new(alloc);
     for _ in 0..4 {
-        match wire.next(&mut source)? {
-            Next::Request(request) => push_request(&mut text, &request)?,
-            Next::Refused(refusal) => {
+        match frames.next(&mut source)? {
+            Framed::Request(request) => push_request(&mut text, &request)?,
+            Framed::Refused(refusal) => {
                 text.push_str(name_of(refusal))?;
                 break;
             }
-            Next::End => {
+            Framed::End => {
                 text.push_str("end")?;
                 break;
             }
-            Next::Truncated => {
+            Framed::Truncated => {
                 text.push_str("truncated")?;
                 break;
             }
-            Next::Failed => text.push_str("failed; ")?,
+            Framed::Failed => text.push_str("failed; ")?,
         }
     }
     Ok(text)
+}
+
+/// The stream tells this in pieces as long as fit, whole or cut at any one byte, and in pieces of
+/// one byte.
+fn assert_told(rt: &impl Abort, alloc: Global, bytes: &[u8], want: &str) -> Result<(), NoMemory> {
+    for cut in 0..bytes.len() {
+        let text = told(alloc, bytes, pieces_of(alloc, 4096, cut)?, Vec::new(alloc))?;
+        assert_eq!(rt; text.as_str(), want, "cut at {cut}");
+    }
+    let text = told(
+        alloc,
+        bytes,
+        pieces_of(alloc, 1, bytes.len())?,
+        Vec::new(alloc),
+    )?;
+    assert_eq!(rt; text.as_str(), want, "in single bytes");
+    Ok(())
 }
 
 /// Writes `METHOD TARGET 1.MINOR CLOSE [BODY]; `, or of a long body its length.
@@ -63,6 +100,9 @@ fn name_of(refusal: Refusal) -> &'static str {
         Refusal::BadLength => "BadLength",
         Refusal::TooLarge => "TooLarge",
         Refusal::NoLength => "NoLength",
+        Refusal::NoRoute | Refusal::BadMethod(_) | Refusal::BadBody | Refusal::NoTarget => {
+            "no refusal of the framing"
+        }
     }
 }
 
@@ -120,16 +160,7 @@ fn reads_requests(rt: HostRuntime) -> Result<(), Fail> {
             "truncated",
         ),
     ] {
-        assert_eq!(rt;
-            told(alloc, text.as_bytes(), 4096, Vec::new(alloc))?.as_str(),
-            want
-        );
-        for cut in 1..text.len() {
-            assert_eq!(rt;
-                told(alloc, text.as_bytes(), cut, Vec::new(alloc))?.as_str(),
-                want
-            );
-        }
+        assert_told(&rt, alloc, text.as_bytes(), want)?;
     }
     Ok(())
 }
@@ -172,16 +203,7 @@ fn refuses(rt: HostRuntime) -> Result<(), Fail> {
         ("GET / HTTP/1.2\r\n\r\n", "BadHead"),
         ("GET / HTTP/1.1\r\n\r\n{}", "GET / 1.1 keep []; BadHead"),
     ] {
-        assert_eq!(rt;
-            told(alloc, text.as_bytes(), 4096, Vec::new(alloc))?.as_str(),
-            want
-        );
-        for cut in 1..text.len() {
-            assert_eq!(rt;
-                told(alloc, text.as_bytes(), cut, Vec::new(alloc))?.as_str(),
-                want
-            );
-        }
+        assert_told(&rt, alloc, text.as_bytes(), want)?;
     }
     Ok(())
 }
@@ -191,36 +213,29 @@ fn refuses(rt: HostRuntime) -> Result<(), Fail> {
 fn refuses_other_targets(rt: HostRuntime) -> Result<(), Fail> {
     let alloc = rt.alloc();
     let bytes = b"GET /\xff HTTP/1.1\r\n\r\n".as_slice();
-    for cut in 1..bytes.len() {
-        assert_eq!(rt;
-            told(alloc, bytes, cut, Vec::new(alloc))?.as_str(),
-            "BadHead"
-        );
-    }
+    assert_told(&rt, alloc, bytes, "BadHead")?;
     Ok(())
 }
 
-// Heads of 16,384 bytes and of one more, and bodies of 65,536.
+// Heads of 16,384 bytes and of one more.
 #[test]
-fn keeps_the_limits(rt: HostRuntime) -> Result<(), Fail> {
+fn keeps_the_limit_of_a_head(rt: HostRuntime) -> Result<(), Fail> {
     let alloc = rt.alloc();
     let head = filled(alloc, "GET / HTTP/1.1\r\nA: ", 16_361, "\r\n\r\nPUT")?;
+    assert_told(&rt, alloc, head.as_slice(), "GET / 1.1 keep []; truncated")?;
     let long = filled(alloc, "GET / HTTP/1.1\r\nA: ", 16_362, "\r\n\r\nPUT")?;
-    let body = filled(
-        alloc,
-        "PUT / HTTP/1.1\r\nContent-Length: 65536\r\n\r\n",
-        65_536,
-        "GET",
-    )?;
-    for cut in [1, 4096] {
-        let none = Vec::new(alloc);
-        let text = told(alloc, head.as_slice(), cut, none)?;
-        assert_eq!(rt; text.as_str(), "GET / 1.1 keep []; truncated");
-        let text = told(alloc, long.as_slice(), cut, Vec::new(alloc))?;
-        assert_eq!(rt; text.as_str(), "HeadTooLarge");
-        let text = told(alloc, body.as_slice(), cut, Vec::new(alloc))?;
-        assert_eq!(rt; text.as_str(), "PUT / 1.1 keep [65536 bytes]; truncated");
-    }
+    assert_told(&rt, alloc, long.as_slice(), "HeadTooLarge")?;
+    Ok(())
+}
+
+// The longest body, of 65,536 bytes.
+#[test]
+fn keeps_the_limit_of_a_body(rt: HostRuntime) -> Result<(), Fail> {
+    let alloc = rt.alloc();
+    let front = "PUT / HTTP/1.1\r\nContent-Length: 65536\r\n\r\n";
+    let body = filled(alloc, front, 65_536, "GET")?;
+    let want = "PUT / 1.1 keep [65536 bytes]; truncated";
+    assert_told(&rt, alloc, body.as_slice(), want)?;
     Ok(())
 }
 
@@ -234,8 +249,7 @@ fn has_room_for_each_field(rt: HostRuntime) -> Result<(), Fail> {
             head.extend_from_slice(b"a:\n")?;
         }
         head.push(b'\n')?;
-        let text = told(alloc, head.as_slice(), 4096, Vec::new(alloc))?;
-        assert_eq!(rt; text.as_str(), want, "{count}");
+        assert_told(&rt, alloc, head.as_slice(), want)?;
     }
     Ok(())
 }
@@ -245,7 +259,7 @@ fn has_room_for_each_field(rt: HostRuntime) -> Result<(), Fail> {
 fn tells_a_failed_read(rt: HostRuntime) -> Result<(), Fail> {
     let alloc = rt.alloc();
     let bytes = b"GET / HTTP/1.1\r\n\r\nGET /a HTTP/1.1\r\n\r\n".as_slice();
-    let text = told(alloc, bytes, 20, vec![in alloc; 2]?)?;
+    let text = told(alloc, bytes, vec![in alloc; 20]?, vec![in alloc; 2]?)?;
     assert_eq!(rt;
         text.as_str(),
         "GET / 1.1 keep []; failed; GET /a 1.1 keep []; end"
@@ -260,11 +274,11 @@ fn reads_no_further(rt: HostRuntime) -> Result<(), Fail> {
     let bytes = b"GET / HTTP/1.1\r\n\r\nGET /a HTTP/1.1\r\n\r\nGET".as_slice();
     let pieces = vec![in alloc; 10, 8, 19]?;
     let mut source = MemorySource::new(Vec::from_slice(alloc, bytes)?, pieces, Vec::new(alloc));
-    let mut wire = Wire::new(alloc)?;
+    let mut frames = Frames::new(alloc)?;
     for calls in [2, 3] {
-        assert!(rt; matches!(wire.next(&mut source)?, Next::Request(_)));
+        assert!(rt; matches!(frames.next(&mut source)?, Framed::Request(_)));
         assert_eq!(rt; source.calls, calls);
     }
-    assert!(rt; matches!(wire.next(&mut source)?, Next::Truncated));
+    assert!(rt; matches!(frames.next(&mut source)?, Framed::Truncated));
     Ok(())
 }

@@ -1,20 +1,54 @@
-use Rattle.std.proofs.Common.{ℕ, List, subst}
-use Rattle.http_wire.specs.Outcomes.{Refuses}
-use Rattle.http_wire.specs.Answers.{ReadsLittle}
-use Rattle.http_wire.proofs.Ahead.{taken_ahead, refuses_ahead}
+use Rattle.std.proofs.Common.{inl, inr, refl, Ok}
+use Rattle.page_units.specs.Outside.{before}
+use Rattle.http_wire.specs.declared.wire.Incoming.{Incoming}
+use Rattle.http_wire.specs.Incoming.{refused_as}
+use Rattle.http_wire.specs.Messages.{message_of}
+use Rattle.http_wire.proofs.Wholes.{whole_of}
+use Rattle.http_wire.proofs.Wired.{request_comes, refusal_comes}
+use Rattle.http_wire.proofs.wire.Wire.next.Goals.{in-Request+in_ok-incoming-in-Request, in-Refused, in-End, in-Truncated, in-Failed}
 use Rattle.http_wire.proofs.wire.Wire.next.Goals as goal
 
-pub returns-in-Whole-clause-says : goal.returns-in-Whole-clause-says
-returns-in-Whole-clause-says g c =
-    let taken = c.in_ok-take-in-Whole.ensures in
-    (taken.0, taken.1, taken_ahead c.reading.self.held.items _ taken.0 (g.S.Source.left c.reading.source) _ c.reading.invariant.ahead taken.2)
+pub returns-clause-says : goal.returns-clause-says
+returns-clause-says g c = elim c.match-branch-2.branch [
+  | in-Request+in_ok-incoming-in-Request w ↦
+      let says = rw w.in-Request.is at c.in_ok-request.ensures.says in
+      rw w.result-is (inl (says.0, _, says.1, w.in_ok-incoming-in-Request.ensures, says.2))
+  | in-Refused w ↦
+      let says = rw w.in-Refused.is at c.in_ok-request.ensures.says in
+      rw w.result-is (inr (_, says.1, refl, says.0))
+  | in-End w ↦ let says = rw w.in-End.is at c.in_ok-request.ensures.says in rw w.result-is says
+  | in-Truncated w ↦ let says = rw w.in-Truncated.is at c.in_ok-request.ensures.says in rw w.result-is says
+  | in-Failed w ↦ let says = rw w.in-Failed.is at c.in_ok-request.ensures.says in rw w.result-is says
+]
 
-pub returns-in-Refused-clause-says : goal.returns-in-Refused-clause-says
-returns-in-Refused-clause-says g c =
-    let shown = subst (λ (z : List ℕ). Refuses z c.in-Refused.refusal) c.as_slice.ensures.value c.in-Refused.ensures in
-    refuses_ahead c.reading.self.held.items (g.S.Source.left c.reading.source) _ c.in-Refused.refusal c.reading.invariant.ahead shown
+pub returns-clause-stream : goal.returns-clause-stream
+returns-clause-stream g c = elim c.match-branch-2.branch [
+  | in-Request+in_ok-incoming-in-Request w ↦
+      let says = rw w.in-Request.is at c.in_ok-request.ensures.says in
+      rw w.result-is (request_comes w.in-Request.request _ _ _ c.next.new.self.held.items says w.in_ok-incoming-in-Request.ensures)
+  | in-Refused w ↦
+      let says = rw w.in-Refused.is at c.in_ok-request.ensures.says in
+      rw w.result-is (refusal_comes _ _ _ _ says.0 says.1)
+  | in-End w ↦ let stream = rw w.in-End.is at c.in_ok-request.ensures.stream in rw w.result-is stream
+  | in-Truncated w ↦ let stream = rw w.in-Truncated.is at c.in_ok-request.ensures.stream in rw w.result-is stream
+  | in-Failed w ↦ let stream = rw w.in-Failed.is at c.in_ok-request.ensures.stream in rw w.result-is stream
+]
 
-pub returns-in-Whole-clause-reads : goal.returns-in-Whole-clause-reads
-returns-in-Whole-clause-reads g c =
-    let taken = c.in_ok-take-in-Whole.ensures in
-    (taken.0, taken.1, subst (ReadsLittle c.args.self.now.held.items) taken.2 c.reading.invariant.little)
+pub returns-clause-reads : goal.returns-clause-reads
+returns-clause-reads g c = elim c.match-branch-2.branch [
+  | in-Request+in_ok-incoming-in-Request w ↦
+      let reads = rw w.in-Request.is at c.in_ok-request.ensures.reads in
+      rw w.result-is (inl (reads.0, _, reads.1, w.in_ok-incoming-in-Request.ensures, reads.2))
+  | in-Refused w ↦
+      let reads = rw w.in-Refused.is at c.in_ok-request.ensures.reads in
+      rw w.result-is (inr (_, refl, reads))
+  | in-End w ↦ let reads = rw w.in-End.is at c.in_ok-request.ensures.reads in rw w.result-is reads
+  | in-Truncated w ↦ let reads = rw w.in-Truncated.is at c.in_ok-request.ensures.reads in rw w.result-is reads
+  | in-Failed w ↦ let reads = rw w.in-Failed.is at c.in_ok-request.ensures.reads in rw w.result-is reads
+]
+
+pub returns-clause-whole : goal.returns-clause-whole
+returns-clause-whole g c =
+    let ahead = before c.args.self.now.frames.held.items (g.S.Source.left c.args.source.now) in
+    let ahead' = before c.next.new.self.held.items (g.S.Source.left c.next.new.source) in
+    whole_of (Ok c.match-branch-2.result) ahead ahead' (returns-clause-stream g c)

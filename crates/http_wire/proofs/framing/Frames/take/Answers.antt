@@ -2,7 +2,7 @@ use Rattle.std.proofs.Common.{rules}
 use Rattle.http_wire.specs.declared.request.Request.{Request}
 use Rattle.http_wire.specs.Messages.{message_of}
 use Rattle.http_wire.proofs.Ahead.{message_taken}
-use Rattle.http_wire.proofs.wire.Wire.take.Goals as goal
+use Rattle.http_wire.proofs.framing.Frames.take.Goals as goal
 
 pub returns : goal.returns
 returns c =

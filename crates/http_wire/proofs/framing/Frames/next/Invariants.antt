@@ -1,8 +1,8 @@
 use Rattle.std.proofs.Common.{◌≡◌, ◌-◌, vec_len}
 use Rattle.page_units.specs.Outside.{before}
 use Rattle.http_wire.specs.Outcomes.{IsUnfinished}
-use Rattle.http_wire.specs.Answers.{ReadsLittle}
-use Rattle.http_wire.proofs.wire.Wire.next.Given as goal
+use Rattle.http_wire.specs.Reading.{ReadsOn}
+use Rattle.http_wire.proofs.framing.Frames.next.Given as goal
 
 -- what is held and what is left are what they were, and only an unfinished request was read on
 abbrev pub invariant-reading : goal.invariant-reading
@@ -13,7 +13,7 @@ invariant-reading g l =
       ahead : before l.self.held.items (left l.source) ≡ before l.fn.self.held.items (left l.fn.source);
       count : faults l.source ≡ faults l.fn.source;
       still : ¬ (IsUnfinished l.fn.self.held.items) → (l.source ≡ l.fn.source) × (l.self.held.items ≡ l.fn.self.held.items);
-      little : ReadsLittle l.fn.self.held.items l.self.held.items;
+      on : ReadsOn g.S.Source.read_once l.fn.self.held.items l.fn.source l.self.held.items l.source;
     }
 
 abbrev pub decreases-reading : goal.decreases-reading

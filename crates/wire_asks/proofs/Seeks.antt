@@ -1,0 +1,186 @@
+-- What the router's search finds among the seven routes.
+use Rattle.std.proofs.Common.{◌≡◌, ℕ, zero, suc, ◌<◌, ◌-◌, ◌⊎◌, inl, inr, List, [], ◌∷◌, ◌++◌, Bool, true, false, cond, Option, Some, None, length, codes, refl, sym, subst, ◌∙◌, arith, eqb, not, option_map, get_or}
+use Rattle.std.specs.Option.{option_map_or}
+use Rattle.matchit.specs.Rows.{RowsOf}
+use Rattle.matchit.specs.Level.{IsText}
+use Rattle.matchit.specs.Seek.{seek, step, first, has_slash, or_else, param_step}
+use Rattle.matchit.specs.Router.{RouteOf}
+use Rattle.wire_asks.specs.declared.route.Route.{Route}
+use Rattle.wire_asks.specs.declared.route.Route.TheVariants.{Dom, Load, Node, Stats, Event, Tick, Halt}
+use Rattle.wire_asks.specs.Table.{seven}
+use Rattle.wire_asks.proofs.Fronts.{strip, is_id, is_text, named_by}
+
+abbrev Found : Type 0
+Found = Option (RouteOf Route)
+
+abbrev Routes : Type 0
+Routes = RowsOf (RouteOf Route)
+
+or_else_none : (x : Found) → or_else x None ≡ x
+or_else_none None = refl
+or_else_none (Some r) = refl
+
+by_slash : (c : Bool) (n : ℕ) (path : List ℕ) → ((m : ℕ) → ◌≡◌ {A = Found} (seek m [] path) None)
+    → ◌≡◌ {A = Found} (seek ((cond {A = ℕ × Routes} c (0, []) (n, [])).0 - 1) (cond {A = ℕ × Routes} c (0, []) (n, [])).1 path) None
+by_slash true n path h = h 0
+by_slash false n path h = h (n - 1)
+
+pub seek_none : (path : List ℕ) (n : ℕ) → ◌≡◌ {A = Found} (seek n [] path) None
+unfolding seek param_step
+seek_none [] n = refl
+seek_none (b ∷ path) zero = rw (seek_none path 0) (or_else_none _ ∙ by_slash (has_slash (b ∷ path)) (suc (length path)) path (seek_none path))
+seek_none (b ∷ path) (suc n) = seek_none path n
+
+pub seek_all : (r : RouteOf Route) (path : List ℕ) → ◌≡◌ {A = Found} (seek (length path) (([], r) ∷ []) path) (Some r)
+unfolding seek param_step
+seek_all r [] = refl
+seek_all r (b ∷ path) = seek_all r path
+
+pub no_param : (b : ℕ) (path : List ℕ) → ◌≡◌ {A = Found} (seek ((param_step {K = RouteOf Route} [] (b ∷ path)).0 - 1) (param_step {K = RouteOf Route} [] (b ∷ path)).1 path) None
+unfolding seek param_step
+no_param b path = by_slash (has_slash (b ∷ path)) (suc (length path)) path (seek_none path)
+
+apart : (x k : ℕ) → x < k → eqb x k ≡ false
+apart x k h = grind (arith, h)
+
+chain_step : (c : Bool) (b : ℕ) (text : List ℕ) (r : RouteOf Route) (path : List ℕ)
+    → ◌≡◌ {A = Found} (seek 0 ((text, r) ∷ []) path) (cond (is_text text path) (Some r) None)
+    → ◌≡◌ {A = Found} (seek 0 (cond {A = Routes} c ((text, r) ∷ []) []) path) (cond (cond c (is_text text path) false) (Some r) None)
+chain_step true b text r path ih = ih
+chain_step false b text r path ih = seek_none path 0
+
+pub chain : (text : List ℕ) (r : RouteOf Route) (path : List ℕ) → IsText text
+    → ◌≡◌ {A = Found} (seek 0 ((text, r) ∷ []) path) (cond (is_text text path) (Some r) None)
+unfolding seek
+chain [] r [] t = refl
+chain [] r (b ∷ path) t = rw (no_param b path, seek_none path 0) refl
+chain (x ∷ text) r [] t = refl
+chain (x ∷ text) r (b ∷ path) t =
+    rw (apart x 256 t.0, apart x 257 (omega (arith, t.0)), no_param b path, or_else_none)
+    (chain_step (eqb x b) b text r path (chain text r path t.1))
+
+-- ---- after `/node/`
+
+end_step : (s : Bool) (path : List ℕ) (r : RouteOf Route)
+    → ◌≡◌ {A = Found} (seek ((cond {A = ℕ × Routes} s (0, []) (suc (length path), ([], r) ∷ [])).0 - 1) (cond {A = ℕ × Routes} s (0, []) (suc (length path), ([], r) ∷ [])).1 path) (cond (not s) (Some r) None)
+end_step true path r = seek_none path 0
+end_step false path r = subst (λ k. ◌≡◌ {A = Found} (seek k (([], r) ∷ []) path) (Some r)) (omega arith) (seek_all r path)
+
+apart_left : (b : ℕ) → b < 256 → eqb 256 b ≡ false
+apart_left b h = grind (arith, h)
+
+node_end : (path : List ℕ) (r : RouteOf Route) → IsText path → ◌≡◌ {A = Found} (seek 0 ((256 ∷ [], r) ∷ []) path) (cond (is_id path) (Some r) None)
+unfolding seek param_step
+node_end [] r t = refl
+node_end (b ∷ path) r t = rw (apart_left b t.0, seek_none path 0, or_else_none) (end_step (has_slash (b ∷ path)) path r)
+
+node_step : (c : Bool) (text : List ℕ) (r : RouteOf Route) (path : List ℕ)
+    → ◌≡◌ {A = Found} (seek 0 ((text ++ 256 ∷ [], r) ∷ []) path) (cond (option_map_or is_id (strip text path) false) (Some r) None)
+    → ◌≡◌ {A = Found} (seek 0 (cond {A = Routes} c ((text ++ 256 ∷ [], r) ∷ []) []) path) (cond (option_map_or is_id (cond c (strip text path) None) false) (Some r) None)
+node_step true text r path ih = ih
+node_step false text r path ih = seek_none path 0
+
+pub node_chain : (text : List ℕ) (r : RouteOf Route) (path : List ℕ) → IsText text → IsText path
+    → ◌≡◌ {A = Found} (seek 0 ((text ++ 256 ∷ [], r) ∷ []) path) (cond (option_map_or is_id (strip text path) false) (Some r) None)
+unfolding seek
+node_chain [] r path t u = node_end path r u
+node_chain (x ∷ text) r [] t u = refl
+node_chain (x ∷ text) r (b ∷ path) t u =
+    rw (apart x 256 t.0, apart x 257 (omega (arith, t.0)), no_param b path, or_else_none)
+    (node_step (eqb x b) text r path (node_chain text r path t.1 u.1))
+
+-- ---- the whole
+
+differs_by : (b k : ℕ) (c : Bool) → eqb k b ≡ c → (b ≡ k) ⊎ (eqb k b ≡ false)
+differs_by b k true e = inl (grind (arith, e))
+differs_by b k false e = inr e
+
+differs : (b k : ℕ) → (b ≡ k) ⊎ (eqb k b ≡ false)
+differs b k = differs_by b k (eqb k b) refl
+
+abbrev pub value_of : Found → Option Route
+value_of = option_map (λ (r : RouteOf Route). r.value)
+
+value_cond : (c : Bool) (r : RouteOf Route) → ◌≡◌ {A = Option Route} (cond c (Some r.value) None) (value_of (cond c (Some r) None))
+value_cond true r = refl
+value_cond false r = refl
+
+abbrev tails : Routes
+tails = step 47 seven
+
+Meets : ℕ → List ℕ → Type 0
+Meets b path = named_by (47 ∷ b ∷ path) ≡ value_of (seek 0 tails (b ∷ path))
+
+at_100 : (path : List ℕ) → Meets 100 path
+unfolding Meets seek
+at_100 path = rw (no_param 100 path, or_else_none, chain (codes "om") (record { pattern = codes "/dom"; text = codes "/dom"; names = []; value = Dom }) path (omega arith, (omega arith, tt))) (value_cond (is_text (codes "om") path) (record { pattern = codes "/dom"; text = codes "/dom"; names = []; value = Dom }))
+
+at_101 : (path : List ℕ) → Meets 101 path
+unfolding Meets seek
+at_101 path = rw (no_param 101 path, or_else_none, chain (codes "vent") (record { pattern = codes "/event"; text = codes "/event"; names = []; value = Event }) path (omega arith, (omega arith, (omega arith, (omega arith, tt))))) (value_cond (is_text (codes "vent") path) (record { pattern = codes "/event"; text = codes "/event"; names = []; value = Event }))
+
+at_104 : (path : List ℕ) → Meets 104 path
+unfolding Meets seek
+at_104 path = rw (no_param 104 path, or_else_none, chain (codes "alt") (record { pattern = codes "/halt"; text = codes "/halt"; names = []; value = Halt }) path (omega arith, (omega arith, (omega arith, tt)))) (value_cond (is_text (codes "alt") path) (record { pattern = codes "/halt"; text = codes "/halt"; names = []; value = Halt }))
+
+at_108 : (path : List ℕ) → Meets 108 path
+unfolding Meets seek
+at_108 path = rw (no_param 108 path, or_else_none, chain (codes "oad") (record { pattern = codes "/load"; text = codes "/load"; names = []; value = Load }) path (omega arith, (omega arith, (omega arith, tt)))) (value_cond (is_text (codes "oad") path) (record { pattern = codes "/load"; text = codes "/load"; names = []; value = Load }))
+
+at_110 : (path : List ℕ) → IsText path → Meets 110 path
+unfolding Meets seek
+at_110 path u = rw (no_param 110 path, or_else_none, node_chain (codes "ode/") (record { pattern = codes "/node/" ++ 256 ∷ []; text = codes "/node/{id}"; names = (7, 9) ∷ []; value = Node }) path (omega arith, (omega arith, (omega arith, (omega arith, tt)))) u) (value_cond (option_map_or is_id (strip (codes "ode/") path) false) (record { pattern = codes "/node/" ++ 256 ∷ []; text = codes "/node/{id}"; names = (7, 9) ∷ []; value = Node }))
+
+at_115 : (path : List ℕ) → Meets 115 path
+unfolding Meets seek
+at_115 path = rw (no_param 115 path, or_else_none, chain (codes "tats") (record { pattern = codes "/stats"; text = codes "/stats"; names = []; value = Stats }) path (omega arith, (omega arith, (omega arith, (omega arith, tt))))) (value_cond (is_text (codes "tats") path) (record { pattern = codes "/stats"; text = codes "/stats"; names = []; value = Stats }))
+
+at_116 : (path : List ℕ) → Meets 116 path
+unfolding Meets seek
+at_116 path = rw (no_param 116 path, or_else_none, chain (codes "ick") (record { pattern = codes "/tick"; text = codes "/tick"; names = []; value = Tick }) path (omega arith, (omega arith, (omega arith, tt)))) (value_cond (is_text (codes "ick") path) (record { pattern = codes "/tick"; text = codes "/tick"; names = []; value = Tick }))
+
+second : (path : List ℕ) → IsText path → named_by (47 ∷ path) ≡ value_of (seek 0 tails path)
+unfolding Meets seek
+second [] t = refl
+second (b ∷ path) t =
+    elim (differs b 100) [
+      | inl e ↦ subst (λ k. Meets k path) (sym e) (at_100 path)
+      | inr n100 ↦
+          elim (differs b 101) [
+            | inl e ↦ subst (λ k. Meets k path) (sym e) (at_101 path)
+            | inr n101 ↦
+                elim (differs b 104) [
+                  | inl e ↦ subst (λ k. Meets k path) (sym e) (at_104 path)
+                  | inr n104 ↦
+                      elim (differs b 108) [
+                        | inl e ↦ subst (λ k. Meets k path) (sym e) (at_108 path)
+                        | inr n108 ↦
+                            elim (differs b 110) [
+                              | inl e ↦ subst (λ k. Meets k path) (sym e) (at_110 path t.1)
+                              | inr n110 ↦
+                                  elim (differs b 115) [
+                                    | inl e ↦ subst (λ k. Meets k path) (sym e) (at_115 path)
+                                    | inr n115 ↦
+                                        elim (differs b 116) [
+                                          | inl e ↦ subst (λ k. Meets k path) (sym e) (at_116 path)
+                                          | inr n116 ↦
+                                              rw (n100, n101, n104, n108, n110, n115, n116, seek_none path 0, no_param b path) refl
+                                        ]
+                                  ]
+                            ]
+                      ]
+                ]
+          ]
+    ]
+
+pub finds : (path : List ℕ) → IsText path → named_by path ≡ value_of (first seven path)
+unfolding seek
+finds [] t = refl
+finds (b ∷ path) t = elim (differs b 47) [
+  | inl e ↦ subst (λ k. named_by (k ∷ path) ≡ value_of (first seven (k ∷ path))) (sym e) (rw (no_param 47 path, or_else_none) (second path t.1))
+  | inr n ↦ rw (n, seek_none path 0, no_param b path) refl
+]
+
+pub bytes_text : (path : List ℕ) → ((i : ℕ) → get_or path i 0 < 256) → IsText path
+bytes_text [] h = tt
+bytes_text (b ∷ path) h = (h 0, bytes_text path (λ i. h (suc i)))

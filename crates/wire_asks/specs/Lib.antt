@@ -1,0 +1,5 @@
+pub mod Asking
+pub mod Bodies
+pub mod Closing
+pub mod Routes
+pub mod Table

@@ -1,0 +1,4 @@
+pub mod BodiesLemmas
+pub mod Fronts
+pub mod Heads
+pub mod Spelled
