@@ -1,0 +1,12 @@
+pub mod Chars
+pub mod Elements
+pub mod Blanks
+pub mod Words
+pub mod Escapes
+pub mod Names
+pub mod Numbers
+pub mod Texts
+pub mod Punctuators
+pub mod Source
+pub mod Tokens
+pub mod Reads

@@ -1,0 +1,25 @@
+-- What the tokens of a script are, and which fault it shows (ECMA-262 5.1, section 7, with this project's
+-- restrictions).
+use Rattle.std.specs.Prelude.{ℕ, List, Some, Result, Ok, Err}
+use Rattle.grammar.specs.Grammar.{Derives}
+use Rattle.grammar.specs.Whole.{FaultAt}
+use Rattle.placed_chars.specs.declared.chars.Char.{Char}
+use Rattle.placed_chars.specs.Chars.{placed, stop}
+use Rattle.js_lexer.specs.declared.fault.LexFault.{LexFault}
+use Rattle.js_lexer.specs.declared.fault.LexFault.TheVariants.{NoMemory}
+use Rattle.js_lexer.specs.declared.token.Token.{Token}
+use Rattle.js_lexer.specs.Source.{source}
+
+-- The characters are these tokens.
+abbrev pub AreTokens : List ℕ → List Token → Type 0
+AreTokens cs tokens = Derives source (placed 0 cs) tokens stop
+
+-- The characters are no tokens, and this is what is wrong where they stop to begin some.
+abbrev pub LexesAs : List ℕ → LexFault → Type 0
+LexesAs cs fault = (rest : List Char) × FaultAt stop source (placed 0 cs) (Some fault) rest
+
+-- What a result says is so by these definitions, unless memory was refused.
+abbrev pub Judged : {A : Type 0} → (A → Type 0) → (LexFault → Type 0) → Result A LexFault → Type 0
+Judged Is Shows (Ok tokens) = Is tokens
+Judged Is Shows (Err NoMemory) = Unit {0}
+Judged Is Shows (Err fault) = Shows fault

@@ -1,0 +1,32 @@
+//! What is wrong with a script's text.
+use std::alloc::AllocError;
+
+/// Why a source has no tokens. Each place is the offset of a byte in the source.
+#[derive(Debug, Clone, Copy, PartialEq, Eq)]
+pub enum LexFault {
+    /// The character here fits no rule, or the backslash here begins no escape.
+    BadChar(u32),
+    /// The text that begins here has no closing quote before a line terminator or the end.
+    UnclosedText(u32),
+    /// The comment that begins here has no `*/`.
+    UnclosedComment(u32),
+    /// What begins here as a number is none: a leading zero, or a name character straight behind it.
+    BadNumber(u32),
+    /// The number that begins here is above 2^53 - 1.
+    BigNumber(u32),
+    /// What begins here is of the language, but not of the part that pages may use.
+    LeftOut(u32),
+    /// Memory was refused.
+    NoMemory,
+}
+
+impl From<AllocError> for LexFault {
+    ghost use Rattle.std.specs.Prelude.{◌≡◌};
+    ghost use Rattle.js_lexer.specs.declared.fault.LexFault.TheVariants.{NoMemory};
+
+    ghost from_gives = { λ _ fault. fault ≡ NoMemory };
+
+    fn from(_: AllocError) -> LexFault {
+        LexFault::NoMemory
+    }
+}
