@@ -1,0 +1,4 @@
+pub mod Alike
+pub mod Digits
+pub mod Givens
+pub mod Order

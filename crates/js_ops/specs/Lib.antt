@@ -1,0 +1,6 @@
+pub mod Answers
+pub mod Conversions
+pub mod Operators
+pub mod Parts
+pub mod TextNumbers
+pub mod Whole
