@@ -1,5 +1,5 @@
 pub mod Complete
+pub mod Fronts
 pub mod Hosting
-pub mod Reading
+pub mod Obeying
 pub mod Serving
-pub mod Streams

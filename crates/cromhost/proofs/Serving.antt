@@ -1,8 +1,8 @@
 -- From the end of a stream to the status of a run.
 use Rattle.std.proofs.Common.{◌≡◌, ◌⊎◌, ℕ, List, [], Option, Result, Ok, Err, inl, inr, refl}
 use Rattle.std.specs.declared.alloc.AllocError.{AllocError}
-use Rattle.cromhost.specs.declared.stream.StreamEnd.{StreamEnd}
-use Rattle.cromhost.specs.declared.stream.StreamEnd.TheVariants.{End, Misfit, RequestBound, ReadFault, WriteFault}
+use Rattle.cromhost.specs.declared.stream.Ended.{Ended}
+use Rattle.cromhost.specs.declared.stream.Ended.TheVariants.{End, Closed, Halted, Truncated, RequestBound, ReadFault, WriteFault}
 use Rattle.cromhost.specs.Stream.{StreamCauses}
 use Rattle.page_reader.specs.declared.fault.PageFault.{PageFault}
 use Rattle.page_reader.specs.declared.fault.PageFault.TheVariants.{Rule, NoMemory}
@@ -12,18 +12,22 @@ use Rattle.cromhost.specs.declared.host.Loaded.{Loaded}
 use Rattle.cromhost.specs.Loading.{LoadSays, OnlyReady}
 use Rattle.cromhost.specs.Headline.{Headline, Causes, Calm, IsRefused, Served, status_of, status_of_fault}
 
-pub headline_of : (result : Result StreamEnd AllocError) (page bytes written : List ℕ) (left : Option (List ℕ)) → Served result page bytes written left → Headline (status_of result) page bytes written left
-headline_of (Ok End) page bytes written left served = served
-headline_of (Ok Misfit) page bytes written left served = inr served
+pub headline_of : (result : Result Ended AllocError) (page bytes written : List ℕ) (left : Option (List ℕ)) → Served result page bytes written left → Headline (status_of result) page bytes written left
+headline_of (Ok End) page bytes written left served = inl served
+headline_of (Ok Closed) page bytes written left served = inr (inl served)
+headline_of (Ok Halted) page bytes written left served = inr (inr served)
+headline_of (Ok Truncated) page bytes written left served = served
 headline_of (Ok RequestBound) page bytes written left served = served
 headline_of (Ok ReadFault) page bytes written left served = served
 headline_of (Ok WriteFault) page bytes written left served = served
 headline_of (Err e) page bytes written left served = inr (e, served)
 
-pub causes_of : (result : Result StreamEnd AllocError) (shelf shelf' input input' output output' : ℕ) → shelf' ≡ shelf → StreamCauses result input input' output output'
+pub causes_of : (result : Result Ended AllocError) (shelf shelf' input input' output output' : ℕ) → shelf' ≡ shelf → StreamCauses result input input' output output'
     → Causes (status_of result) shelf shelf' input input' output output'
 causes_of (Ok End) _ _ _ _ _ _ same c = (same, c.0, c.1)
-causes_of (Ok Misfit) _ _ _ _ _ _ same c = (same, c.0, c.1)
+causes_of (Ok Closed) _ _ _ _ _ _ same c = (same, c.0, c.1)
+causes_of (Ok Halted) _ _ _ _ _ _ same c = (same, c.0, c.1)
+causes_of (Ok Truncated) _ _ _ _ _ _ same c = (same, c.0, c.1)
 causes_of (Ok RequestBound) _ _ _ _ _ _ same c = (same, c.0, c.1)
 causes_of (Ok ReadFault) _ _ _ _ _ _ same c = (same, c.0, c.1)
 causes_of (Ok WriteFault) _ _ _ _ _ _ same c = (same, c.0, c.1)

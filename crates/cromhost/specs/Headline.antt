@@ -3,15 +3,15 @@ use Rattle.std.specs.Prelude.{◌≡◌, ◌⊎◌, ◌≤◌, ℕ, List, [], le
 use Rattle.std.specs.declared.alloc.AllocError.{AllocError}
 use Rattle.page_units.specs.Outside.{Rose}
 use Rattle.cell_places.specs.Heap.{Heap}
+use Rattle.http_wire.specs.Messages.{Message}
+use Rattle.http_wire.specs.Requests.{RequestsOf, ended}
 use Rattle.page_reader.specs.declared.fault.PageFault.{PageFault}
-use Rattle.page_reader.specs.declared.fault.PageFault.TheVariants as page
+use Rattle.page_reader.specs.declared.fault.PageFault.TheVariants as fault
 use Rattle.page_reader.specs.Page.{IsPageFault}
-use Rattle.cromhost.specs.declared.wire.Asked.{Asked}
 use Rattle.cromhost.specs.declared.status.Status.{Status}
-use Rattle.cromhost.specs.declared.status.Status.TheVariants.{Ended, Usage, Page, NotBuilt, ReadFault, WriteFault, NoMemory, ShelfFault, RequestBound}
-use Rattle.cromhost.specs.declared.stream.StreamEnd.{StreamEnd}
-use Rattle.cromhost.specs.declared.stream.StreamEnd.TheVariants as end
-use Rattle.cromhost.specs.Requests.{Requests}
+use Rattle.cromhost.specs.declared.status.Status.TheVariants.{Ended, Usage, Page, NotBuilt, ReadFault, WriteFault, NoMemory, ShelfFault, Truncated, RequestBound}
+use Rattle.cromhost.specs.declared.stream.Ended as stream
+use Rattle.cromhost.specs.declared.stream.Ended.TheVariants as end
 use Rattle.cromhost.specs.Plain.{Loads}
 use Rattle.cromhost.specs.Loading.{IsScripted}
 use Rattle.cromhost.specs.Stream.{Streamed}
@@ -21,9 +21,11 @@ abbrev pub served_requests : ℕ
 served_requests = 100000
 
 -- the status of a run whose stream ended so
-abbrev pub status_of : Result StreamEnd AllocError → Status
+abbrev pub status_of : Result stream.Ended AllocError → Status
 status_of (Ok end.End) = Ended
-status_of (Ok end.Misfit) = NotBuilt
+status_of (Ok end.Closed) = Ended
+status_of (Ok end.Halted) = Ended
+status_of (Ok end.Truncated) = Truncated
 status_of (Ok end.RequestBound) = RequestBound
 status_of (Ok end.ReadFault) = ReadFault
 status_of (Ok end.WriteFault) = WriteFault
@@ -31,33 +33,35 @@ status_of (Err e) = NoMemory
 
 -- the status of a run whose page wasn't read
 abbrev pub status_of_fault : PageFault → Status
-status_of_fault (page.Rule number at) = Page (page.Rule number at)
-status_of_fault page.NoMemory = NoMemory
+status_of_fault (fault.Rule number at) = Page (fault.Rule number at)
+status_of_fault fault.NoMemory = NoMemory
 
 -- the page was loaded, and its host served the stream
-pub record Served (result : Result StreamEnd AllocError) (page bytes written : List ℕ) (left : Option (List ℕ)) : Type 0 where
+pub record Served (result : Result stream.Ended AllocError) (page bytes written : List ℕ) (left : Option (List ℕ)) : Type 0 where
   pub start : Heap
   pub last : Heap
   pub count : ℕ
   pub loads : Loads page start
-  pub stream : Streamed result start last served_requests 0 count bytes written left
+  pub stream : Streamed result served_requests start last 0 count bytes written left
 
 -- What was written for the page and the bytes of the input, by the status; `left` is what is left of the input.
 abbrev pub Headline : Status → (page bytes written : List ℕ) → (left : Option (List ℕ)) → Type 0
 Headline Usage page bytes written left = ⊥
 Headline ShelfFault page bytes written left = written ≡ []
-Headline (Page (page.Rule number at)) page bytes written left = IsPageFault page number at × (written ≡ [])
-Headline (Page page.NoMemory) page bytes written left = ⊥
-Headline NotBuilt page bytes written left = (IsScripted page × (written ≡ [])) ⊎ Served (Ok end.Misfit) page bytes written left
+Headline (Page (fault.Rule number at)) page bytes written left = IsPageFault page number at × (written ≡ [])
+Headline (Page fault.NoMemory) page bytes written left = ⊥
+Headline NotBuilt page bytes written left = IsScripted page × (written ≡ [])
 Headline NoMemory page bytes written left = (written ≡ []) ⊎ ((e : AllocError) × Served (Err e) page bytes written left)
-Headline Ended page bytes written left = Served (Ok end.End) page bytes written left
+Headline Ended page bytes written left =
+    Served (Ok end.End) page bytes written left ⊎ Served (Ok end.Closed) page bytes written left ⊎ Served (Ok end.Halted) page bytes written left
+Headline Truncated page bytes written left = Served (Ok end.Truncated) page bytes written left
 Headline RequestBound page bytes written left = Served (Ok end.RequestBound) page bytes written left
 Headline ReadFault page bytes written left = Served (Ok end.ReadFault) page bytes written left
 Headline WriteFault page bytes written left = Served (Ok end.WriteFault) page bytes written left
 
 -- the run ended with this fault of the page, or before the page was read
 abbrev pub IsRefused : Status → (number at : ℕ) → Type 0
-IsRefused (Page (page.Rule n a)) number at = (n ≡ number) × (a ≡ at)
+IsRefused (Page (fault.Rule n a)) number at = (n ≡ number) × (a ≡ at)
 IsRefused ShelfFault number at = ⊤
 IsRefused NoMemory number at = ⊤
 IsRefused _ number at = ⊥
@@ -72,6 +76,7 @@ Causes Ended shelf shelf' input input' output output' = Calm shelf shelf' input 
 Causes Usage shelf shelf' input input' output output' = Calm shelf shelf' input input' output output'
 Causes (Page fault) shelf shelf' input input' output output' = Calm shelf shelf' input input' output output'
 Causes NotBuilt shelf shelf' input input' output output' = Calm shelf shelf' input input' output output'
+Causes Truncated shelf shelf' input input' output output' = Calm shelf shelf' input input' output output'
 Causes RequestBound shelf shelf' input input' output output' = Calm shelf shelf' input input' output output'
 Causes NoMemory shelf shelf' input input' output output' = Calm shelf shelf' input input' output output'
 Causes ShelfFault shelf shelf' input input' output output' = Rose shelf shelf' × (input' ≡ input) × (output' ≡ output)
@@ -82,6 +87,6 @@ Causes WriteFault shelf shelf' input input' output output' = (shelf' ≡ shelf) 
 pub record IsWhole (page bytes : List ℕ) : Type 0 where
   pub heap : Heap
   pub loads : Loads page heap
-  pub asked : List Asked
-  pub requests : Requests bytes asked
-  pub few : length asked ≤ served_requests
+  pub requests : List Message
+  pub whole : RequestsOf bytes requests ended
+  pub few : length requests ≤ served_requests

@@ -1,8 +1,7 @@
-pub mod Words
-pub mod Requests
+pub mod Headline
 pub mod Loading
 pub mod Plain
-pub mod Replies
-pub mod Stream
-pub mod Headline
+pub mod Replying
 pub mod Statuses
+pub mod Stream
+pub mod Words

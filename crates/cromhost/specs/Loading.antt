@@ -1,5 +1,5 @@
 -- What loading a page says.
-use Rattle.std.specs.Prelude.{◌≡◌, ◌≢◌, List, [], ℕ, Result, Ok, Err, ⊤}
+use Rattle.std.specs.Prelude.{◌≢◌, List, [], ℕ, Result, Ok, Err, ⊤}
 use Rattle.cell_places.specs.Sound.{IsSound}
 use Rattle.cell_heap.specs.Base.{heap_of}
 use Rattle.dom_tree.specs.Trees.{Trees}

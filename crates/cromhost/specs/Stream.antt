@@ -1,102 +1,83 @@
 -- One stream, from its bytes to what was written.
-use Rattle.std.specs.Prelude.{◌≡◌, ℕ, ◌+◌, List, [], ◌++◌, length, take, Option, Some, Result, Ok, Err}
-use Rattle.std.specs.List.{flat_map}
+use Rattle.std.specs.Prelude.{◌≡◌, ◌<◌, ◌⊎◌, ℕ, ◌+◌, false, List, [], ◌++◌, take, Option, Some, Result, Ok, Err, ⊤}
 use Rattle.std.specs.declared.alloc.AllocError.{AllocError}
-use Rattle.page_units.specs.Outside.{before, after, Rose}
+use Rattle.page_units.specs.Outside.{before, Rose}
 use Rattle.cell_places.specs.Heap.{Heap}
-use Rattle.cromhost.specs.declared.wire.Asked.{Asked}
-use Rattle.cromhost.specs.declared.wire.Next.{Next}
-use Rattle.cromhost.specs.declared.wire.Next.TheVariants as next
-use Rattle.cromhost.specs.declared.stream.StreamEnd.{StreamEnd}
-use Rattle.cromhost.specs.declared.stream.StreamEnd.TheVariants.{End, Misfit, RequestBound, ReadFault, WriteFault}
-use Rattle.cromhost.specs.Requests.{IsRequest, Requests, BeginsRequest, IsPartial, IsMisfit}
-use Rattle.cromhost.specs.Plain.{PlainRun}
-use Rattle.cromhost.specs.Replies.{Reply, reply_bytes}
+use Rattle.http_wire.specs.declared.wire.Incoming.{Incoming}
+use Rattle.http_wire.specs.Incoming.{Comes}
+use Rattle.http_wire.specs.Outcomes.{IsUnfinished}
+use Rattle.cromhost.specs.declared.stream.Ended.{Ended}
+use Rattle.cromhost.specs.declared.stream.Ended.TheVariants.{End, Closed, Halted, Truncated, ReadFault, WriteFault, RequestBound}
+use Rattle.cromhost.specs.Replying.{Reply, bytes_of}
+use Rattle.cromhost.specs.Plain.{Answered, ends_behind, PlainRun, Ending, at_end, closed, halted_so, cut_off, at_bound}
 
--- ---- the reader of requests; what is ahead are the bytes that it holds, and then what is left of the source
+-- Requests at the front of a stream that were answered and end nothing, with the bytes of their replies, and the bytes
+-- behind them.
+pub data Front (most : ℕ) : Heap → (served : ℕ) → (bytes : List ℕ) → (replies : List ℕ) → Heap → (served' : ℕ) → (rest : List ℕ) → Type 0 where
+  none : (H : Heap) (n : ℕ) (bytes : List ℕ) → Front most H n bytes [] H n bytes
+  more : (H mid H' : Heap) (n m : ℕ) (bytes rest behind replies : List ℕ) (i : Incoming) (r : Reply) → n < most → Comes bytes i rest → Answered H i.asked [] [] r mid
+      → ends_behind i ≡ false → Front most mid (n + 1) rest replies H' m behind → Front most H n bytes (bytes_of r false ++ replies) H' m behind
 
--- what its answer says of what is ahead before and then, and of what it holds then
-abbrev pub NextSays : Result Next AllocError → (ahead ahead' : Option (List ℕ)) → (held' : List ℕ) → Type 0
-NextSays (Ok (next.Request asked)) ahead ahead' held' = (bytes : List ℕ) × IsRequest bytes asked × (ahead ≡ before bytes ahead')
-NextSays (Ok next.End) ahead ahead' held' = (bytes : List ℕ) → ahead ≡ Some bytes → bytes ≡ []
-NextSays (Ok next.Misfit) ahead ahead' held' = (bytes : List ℕ) → ahead ≡ Some bytes → IsMisfit bytes
-NextSays (Ok next.Failed) ahead ahead' held' = (ahead' ≡ ahead) × IsPartial held'
-NextSays (Err e) ahead ahead' held' = Unit {0}
+-- the stream was served to an ending of the plain host, and all its replies were written
+abbrev pub RunsTo : Ending → (most : ℕ) → (H H' : Heap) → (served served' : ℕ) → (bytes written : List ℕ) → Type 0
+RunsTo e most H H' served served' bytes written = PlainRun most H served bytes [] [] written H' served' e
 
--- a read failed only where the source's count rose
-abbrev pub NextCause : Result Next AllocError → ℕ → ℕ → Type 0
-NextCause (Ok next.Failed) old new = Rose old new
-NextCause (Ok (next.Request asked)) old new = new ≡ old
-NextCause (Ok next.End) old new = new ≡ old
-NextCause (Ok next.Misfit) old new = new ≡ old
-NextCause (Err e) old new = new ≡ old
-
--- ---- streams
-
--- How the bytes go on behind the requests that were answered, where the stream ended so; `most` requests are answered at
--- the most.
-abbrev pub EndsAs : Result StreamEnd AllocError → (most served : ℕ) → (rest : List ℕ) → (left : Option (List ℕ)) → Type 0
-EndsAs (Ok End) most served rest left = rest ≡ []
-EndsAs (Ok Misfit) most served rest left = IsMisfit rest
-EndsAs (Ok RequestBound) most served rest left = (served ≡ most) × BeginsRequest rest
-EndsAs (Ok ReadFault) most served rest left = (held : List ℕ) × IsPartial held × (Some rest ≡ before held left)
-EndsAs (Ok WriteFault) most served rest left = Unit {0}
-EndsAs (Err e) most served rest left = Unit {0}
-
--- a front of the bytes
-abbrev pub IsFront : List ℕ → List ℕ → Type 0
-IsFront written all = (count : ℕ) × (written ≡ take count all)
-
--- what is written of the replies
-abbrev pub Writes : Result StreamEnd AllocError → (written all : List ℕ) → Type 0
-Writes (Ok End) written all = written ≡ all
-Writes (Ok Misfit) written all = written ≡ all
-Writes (Ok RequestBound) written all = written ≡ all
-Writes (Ok ReadFault) written all = written ≡ all
-Writes (Ok WriteFault) written all = IsFront written all
-Writes (Err e) written all = IsFront written all
-
--- The heap stands that the run ends with; after want of memory nothing is said of it.
-abbrev pub Stands : Result StreamEnd AllocError → Heap → Heap → Type 0
-Stands (Ok End) H last = H ≡ last
-Stands (Ok Misfit) H last = H ≡ last
-Stands (Ok RequestBound) H last = H ≡ last
-Stands (Ok ReadFault) H last = H ≡ last
-Stands (Ok WriteFault) H last = H ≡ last
-Stands (Err e) H last = Unit {0}
-
--- A stream from its bytes to what was written, through a run of the plain host. `served` counts the requests that were
--- answered, the one whose reply couldn't be written whole included.
-pub record Streamed (result : Result StreamEnd AllocError) (H H' : Heap) (most served served' : ℕ) (bytes written : List ℕ) (left : Option (List ℕ)) : Type 0 where
-  pub asked : List Asked
-  pub replies : List Reply
-  pub read : List ℕ
+-- A read failed: the requests that were read whole are answered, and the bytes behind them, those that were kept and
+-- those that are left, begin with an unfinished one.
+pub record StopsReading (most : ℕ) (H H' : Heap) (served served' : ℕ) (bytes written : List ℕ) (left : Option (List ℕ)) : Type 0 where
   pub rest : List ℕ
-  pub splits : bytes ≡ read ++ rest
-  pub whole : Requests read asked
-  pub last : Heap
-  pub run : PlainRun H asked [] [] replies last
-  pub stands : Stands result H' last
-  pub count : served' ≡ served + length asked
-  pub ends : EndsAs result most served' rest left
-  pub writes : Writes result written (flat_map reply_bytes replies)
+  pub front : Front most H served bytes written H' served' rest
+  pub kept : List ℕ
+  pub unfinished : IsUnfinished kept
+  pub split : Some rest ≡ before kept left
+
+-- A write failed: behind a front, the reply to one request more was written in part, or memory was refused before it was.
+pub record StopsWriting (most : ℕ) (H H' : Heap) (served served' : ℕ) (bytes written : List ℕ) : Type 0 where
+  pub mid : Heap
+  pub count : ℕ
+  pub replies : List ℕ
+  pub rest : List ℕ
+  pub behind : List ℕ
+  pub front : Front most H served bytes replies mid count rest
+  pub incoming : Incoming
+  pub comes : Comes rest incoming behind
+  pub reply : Reply
+  pub answered : Answered mid incoming.asked [] [] reply H'
+  pub fits : count < most
+  pub counted : served' ≡ count + 1
+  pub part : ℕ
+  pub gained : written ≡ replies ++ take part (bytes_of reply (ends_behind incoming))
+
+-- Memory was refused: what was written are the replies of a front, or those and a part of one reply more.
+abbrev pub GivesUp : (most : ℕ) → Heap → (served : ℕ) → (bytes written : List ℕ) → Type 0
+GivesUp most H served bytes written =
+    ((mid : Heap) × (count : ℕ) × (rest : List ℕ) × Front most H served bytes written mid count rest)
+    ⊎ ((last : Heap) × (count : ℕ) × StopsWriting most H last served count bytes written)
+
+-- A stream from its bytes to what was written, by its end.
+abbrev pub Streamed : Result Ended AllocError → (most : ℕ) → (H H' : Heap) → (served served' : ℕ) → (bytes written : List ℕ) → (left : Option (List ℕ)) → Type 0
+Streamed (Ok End) most H H' served served' bytes written left = RunsTo at_end most H H' served served' bytes written
+Streamed (Ok Closed) most H H' served served' bytes written left = RunsTo closed most H H' served served' bytes written
+Streamed (Ok Halted) most H H' served served' bytes written left = RunsTo halted_so most H H' served served' bytes written
+Streamed (Ok Truncated) most H H' served served' bytes written left = RunsTo cut_off most H H' served served' bytes written
+Streamed (Ok RequestBound) most H H' served served' bytes written left = RunsTo at_bound most H H' served served' bytes written
+Streamed (Ok ReadFault) most H H' served served' bytes written left = StopsReading most H H' served served' bytes written left
+Streamed (Ok WriteFault) most H H' served served' bytes written left = StopsWriting most H H' served served' bytes written
+Streamed (Err e) most H H' served served' bytes written left = GivesUp most H served bytes written
 
 -- Each fault comes only where its count rose, and an end without a fault only where none did.
-abbrev pub StreamCauses : Result StreamEnd AllocError → (source source' sink sink' : ℕ) → Type 0
+abbrev pub StreamCauses : Result Ended AllocError → (source source' sink sink' : ℕ) → Type 0
 StreamCauses (Ok ReadFault) source source' sink sink' = Rose source source' × (sink' ≡ sink)
 StreamCauses (Ok WriteFault) source source' sink sink' = (source' ≡ source) × Rose sink sink'
 StreamCauses (Ok End) source source' sink sink' = (source' ≡ source) × (sink' ≡ sink)
-StreamCauses (Ok Misfit) source source' sink sink' = (source' ≡ source) × (sink' ≡ sink)
+StreamCauses (Ok Closed) source source' sink sink' = (source' ≡ source) × (sink' ≡ sink)
+StreamCauses (Ok Halted) source source' sink sink' = (source' ≡ source) × (sink' ≡ sink)
+StreamCauses (Ok Truncated) source source' sink sink' = (source' ≡ source) × (sink' ≡ sink)
 StreamCauses (Ok RequestBound) source source' sink sink' = (source' ≡ source) × (sink' ≡ sink)
 StreamCauses (Err e) source source' sink sink' = (source' ≡ source) × (sink' ≡ sink)
 
--- what was done so far, between two requests
-pub record Progress (H H' : Heap) (served served' : ℕ) (left ahead told told' : Option (List ℕ)) : Type 0 where
-  pub asked : List Asked
-  pub replies : List Reply
-  pub read : List ℕ
-  pub whole : Requests read asked
-  pub run : PlainRun H asked [] [] replies H'
-  pub count : served' ≡ served + length asked
-  pub came : left ≡ before read ahead
-  pub went : told' ≡ after told (flat_map reply_bytes replies)
+-- not cut off, and not at the bound
+abbrev pub IsWholeEnd : Result Ended AllocError → Type 0
+IsWholeEnd (Ok Truncated) = ⊥
+IsWholeEnd (Ok RequestBound) = ⊥
+IsWholeEnd _ = ⊤

@@ -3,13 +3,11 @@
 #![tactic(auto)]
 
 mod host;
-mod reply;
 mod run;
 mod status;
 mod stream;
 #[cfg(test)]
 mod tests;
-mod wire;
 mod words;
 
 use crate::run::run;

@@ -9,7 +9,7 @@ ghost use Rattle.cromhost.specs.Headline as spec;
 
 use crate::host::{Loaded, load};
 use crate::status::Status;
-use crate::stream::{StreamEnd, serve_stream};
+use crate::stream::{Ended, serve_stream};
 use crate::words::page_name;
 use page_reader::PageFault;
 use page_units::{FETCHED_BYTES, Fetched, NoMemory, Shelf, Sink, Source};
@@ -77,15 +77,15 @@ fn status_of_fault(fault: PageFault) -> Status
 }
 
 /// The status of a run whose stream ended so.
-fn status_of(outcome: Result<StreamEnd, NoMemory>) -> Status
+fn status_of(outcome: Result<Ended, NoMemory>) -> Status
     ensures { result ≡ spec.status_of outcome }
 {
     match outcome {
-        Ok(StreamEnd::End) => Status::Ended,
-        Ok(StreamEnd::Misfit) => Status::NotBuilt,
-        Ok(StreamEnd::RequestBound) => Status::RequestBound,
-        Ok(StreamEnd::ReadFault) => Status::ReadFault,
-        Ok(StreamEnd::WriteFault) => Status::WriteFault,
+        Ok(Ended::End) | Ok(Ended::Closed) | Ok(Ended::Halted) => Status::Ended,
+        Ok(Ended::Truncated) => Status::Truncated,
+        Ok(Ended::RequestBound) => Status::RequestBound,
+        Ok(Ended::ReadFault) => Status::ReadFault,
+        Ok(Ended::WriteFault) => Status::WriteFault,
         Err(_) => Status::NoMemory,
     }
 }

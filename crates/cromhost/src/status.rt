@@ -23,9 +23,12 @@ pub enum Status {
     NoMemory,
     /// The page's file couldn't be read.
     ShelfFault,
-    /// As many requests were answered as a run answers at the most, and one more was read whole.
+    /// The input ended inside a request.
+    Truncated,
+    /// As many requests were answered as a run answers at the most, and one more came, whole or
+    /// refused.
     RequestBound,
-    /// The page has a script, or the input isn't of the form that is built so far.
+    /// The page has a script, which isn't run yet.
     NotBuilt,
 }
 
@@ -42,6 +45,7 @@ impl Status {
             Status::WriteFault => 5,
             Status::NoMemory => 6,
             Status::ShelfFault => 7,
+            Status::Truncated => 8,
             Status::RequestBound => 10,
             Status::NotBuilt => 11,
         }
@@ -65,6 +69,7 @@ impl fmt::Display for Status {
                 f.write_str("cromhost: no memory")
             }
             Status::ShelfFault => f.write_str("cromhost: page not read"),
+            Status::Truncated => f.write_str("cromhost: input ended inside a request"),
             Status::RequestBound => f.write_str("cromhost: request bound"),
             Status::NotBuilt => f.write_str("cromhost: not built"),
         }

@@ -5,6 +5,7 @@ use page_reader::PageFault;
 use page_units::{MemoryShelf, MemorySink, MemorySource, NoMemory, SureSink, SureSource};
 use std::alloc::Global;
 use std::collections::BTreeMap;
+use std::process::Abort;
 use std::test::Fail;
 
 const DOM: &[u8] = b"GET /dom HTTP/1.1\r\n\r\n";
@@ -110,47 +111,39 @@ fn refuses_words(rt: HostRuntime) -> Result<(), Fail> {
     Ok(())
 }
 
-/// The tree text of the document of a page, as `/dom` replies it.
-fn served(alloc: Global, page: &[u8]) -> Result<Vec<u8>, NoMemory> {
-    let (status, output) = ran(alloc, &["stdio", "p"], page, DOM, SURE)?;
-    let mut lines = Vec::from_slice(alloc, format!(in alloc; "{status}|")?.as_bytes())?;
-    let mut head = true;
-    let mut feeds = 0;
-    for byte in output.as_slice() {
-        if !head {
-            lines.push(*byte)?;
-        } else if *byte == b'\n' {
-            feeds += 1;
-            head = feeds < 4;
-        }
-    }
-    Ok(lines)
+/// The reply with this tree text.
+fn reply_with(alloc: Global, text: &[u8]) -> Result<Vec<u8>, NoMemory> {
+    let head =
+        b"HTTP/1.1 200 OK\r\nContent-Type: text/html; charset=utf-8\r\nContent-Length: ".as_slice();
+    let mut reply = Vec::from_slice(alloc, head)?;
+    let length = text.len().to_string(alloc)?;
+    reply.extend_from_slice(length.as_bytes())?;
+    reply.extend_from_slice(b"\r\n\r\n")?;
+    reply.extend_from_slice(text)?;
+    Ok(reply)
 }
 
 // Pages and the tree texts that `/dom` replies.
 #[test]
 fn serves_whole_pages(rt: HostRuntime) -> Result<(), Fail> {
+    let alloc = rt.alloc();
     for (page, text) in [
         (
             "<html><A href='x\"y'>1 &lt; 2</a><!-- c --></html>",
-            "|<html><a href=\"x&quot;y\">1 &lt; 2</a></html>",
+            "<html><a href=\"x&quot;y\">1 &lt; 2</a></html>",
         ),
-        ("<html><br></html>", "|<html><br></html>"),
-        (
-            "<!doctype HTML>\n<a x b=\"&amp;\"/></a>",
-            "cromhost: page rule 3 at 16|",
-        ),
+        ("<html><br></html>", "<html><br></html>"),
         (
             "<!doctype HTML>\n<A x b=\"&amp;\">&#65;</a >\n",
-            "|<a x=\"\" b=\"&amp;\">A</a>",
+            "<a x=\"\" b=\"&amp;\">A</a>",
         ),
-        ("<style>a > b</STYLE>", "|<style>a > b</style>"),
-        ("<p>a > b</p>", "|<p>a &gt; b</p>"),
+        ("<style>a > b</STYLE>", "<style>a > b</style>"),
+        ("<p>a > b</p>", "<p>a &gt; b</p>"),
     ] {
-        assert!(rt;
-            served(rt.alloc(), page.as_bytes())?.as_slice() == text.as_bytes(),
-            "{page}"
-        );
+        let (status, output) = ran(alloc, &["stdio", "p"], page.as_bytes(), DOM, SURE)?;
+        assert_eq!(rt; status, Status::Ended, "{page}");
+        let reply = reply_with(alloc, text.as_bytes())?;
+        assert!(rt; output.as_slice() == reply.as_slice(), "{page}");
     }
     Ok(())
 }
@@ -162,6 +155,7 @@ fn refuses_what_is_no_page(rt: HostRuntime) -> Result<(), Fail> {
     for (page, rule, at) in [
         ("<html><b><i>x</b></i></html>", 7, 13),
         ("<a x=1></a>", 4, 3),
+        ("<!doctype HTML>\n<a x b=\"&amp;\"/></a>", 3, 16),
         ("<a x='1' X='2'>", 10, 9),
         ("<a>&#0;</a>", 5, 3),
         ("<a><!--", 6, 3),
@@ -227,6 +221,7 @@ fn prints_statuses(rt: HostRuntime) -> Result<(), Fail> {
             "cromhost: page rule 7 at 13",
         ),
         (Status::NotBuilt, "cromhost: not built"),
+        (Status::Truncated, "cromhost: input ended inside a request"),
     ] {
         assert_eq!(rt; status.to_string(rt.alloc())?.as_str(), line);
     }
@@ -277,19 +272,114 @@ fn answers_each_request_however_it_is_cut(rt: HostRuntime) -> Result<(), Fail> {
     Ok(())
 }
 
-// What comes before bytes that are no request is answered.
+/// What a run on a page answers to a stream that comes in a first piece of so many bytes, or
+/// whole: each reply's code and body, and the status's number.
+fn told(alloc: Global, page: &[u8], input: &[u8], cut: usize) -> Result<Vec<u8>, NoMemory> {
+    let words = words_of(alloc, &["stdio", "p"])?;
+    let mut shelf = shelf_of(alloc, page, 0)?;
+    let pieces = if cut == 0 {
+        Vec::new(alloc)
+    } else {
+        vec![in alloc; cut]?
+    };
+    let mut source = MemorySource::new(Vec::from_slice(alloc, input)?, pieces, Vec::new(alloc));
+    let mut sink = SureSink::new(Vec::new(alloc));
+    let status = run(alloc, &words, &mut shelf, &mut source, &mut sink);
+    let mut told = Vec::from_slice(alloc, sink.bytes())?;
+    told.push(b'0' + status.number())?;
+    Ok(told)
+}
+
+/// The stream is answered so on this page, whole or cut at any one byte.
+fn assert_told(
+    rt: &impl Abort,
+    alloc: Global,
+    page: &[u8],
+    input: &[u8],
+    want: &[u8],
+) -> Result<(), NoMemory> {
+    for cut in 0..input.len() {
+        assert!(rt;
+            told(alloc, page, input, cut)?.as_slice() == want,
+            "cut at {cut}"
+        );
+    }
+    Ok(())
+}
+
+// Requests of each kind that is built, refused ones and ones that aren't built yet, with the bytes
+// of their replies and the number of the status behind them.
 #[test]
-fn stops_at_another_request(rt: HostRuntime) -> Result<(), Fail> {
-    let alloc = rt.alloc();
-    for (input, replies) in [
-        ("GET /dam HTTP/1.1\r\n\r\n", 0),
-        ("GET /dom HTTP/1.1\r\n", 0),
-        ("GET /dom HTTP/1.1\r\n\r\nGET /dam HTTP/1.1\r\n\r\n", 1),
-        ("GET /dom HTTP/1.1\r\n\r\nG", 1),
+fn answers_requests(rt: HostRuntime) -> Result<(), Fail> {
+    for (input, want) in [
+        (
+            "GET /none HTTP/1.1\r\n\r\nGET /node/ HTTP/1.1\r\n\r\n",
+            "HTTP/1.1 404 Not Found\r\nContent-Type: application/json\r\nContent-Length: 21\r\n\r\n{\"refused\":\"NoRoute\"}HTTP/1.1 404 Not Found\r\nContent-Type: application/json\r\nContent-Length: 21\r\n\r\n{\"refused\":\"NoRoute\"}0",
+        ),
+        (
+            "POST /dom HTTP/1.1\r\nContent-Length: 0\r\n\r\n",
+            "HTTP/1.1 405 Method Not Allowed\r\nAllow: GET\r\nContent-Type: application/json\r\nContent-Length: 23\r\n\r\n{\"refused\":\"BadMethod\"}0",
+        ),
+        (
+            "PUT /dom HTTP/1.1\r\nContent-Length: 65537\r\n\r\nGET /dom HTTP/1.1\r\n\r\n",
+            "HTTP/1.1 413 Payload Too Large\r\nContent-Type: application/json\r\nContent-Length: 22\r\nConnection: close\r\n\r\n{\"refused\":\"TooLarge\"}0",
+        ),
+        (
+            "POST /event HTTP/1.1\r\nContent-Length: 29\r\n\r\n{\"target\":",
+            "8",
+        ),
+        (
+            "POST /halt HTTP/1.1\r\nContent-Length: 0\r\n\r\nGET /dom HTTP/1.1\r\n\r\n",
+            "HTTP/1.1 200 OK\r\nContent-Type: application/json\r\nContent-Length: 20\r\nConnection: close\r\n\r\n{\"outcome\":\"halted\"}0",
+        ),
+        (
+            "GET /dom HTTP/1.0\r\n\r\nGET /dom HTTP/1.1\r\n\r\n",
+            "HTTP/1.1 200 OK\r\nContent-Type: text/html; charset=utf-8\r\nContent-Length: 7\r\nConnection: close\r\n\r\n<a></a>0",
+        ),
+        (
+            "GET /load HTTP/1.1\r\nConnection: close\r\n\r\nGET",
+            "HTTP/1.1 501 Not Implemented\r\nContent-Type: application/json\r\nContent-Length: 22\r\nConnection: close\r\n\r\n{\"refused\":\"NotBuilt\"}0",
+        ),
+        (
+            "POST /tick HTTP/1.1\r\nContent-Length: 8\r\n\r\n{\"ms\":0}POST /tick HTTP/1.1\r\nContent-Length: 8\r\n\r\n{\"ms\":1}GET /",
+            "HTTP/1.1 400 Bad Request\r\nContent-Type: application/json\r\nContent-Length: 21\r\n\r\n{\"refused\":\"BadBody\"}HTTP/1.1 501 Not Implemented\r\nContent-Type: application/json\r\nContent-Length: 22\r\n\r\n{\"refused\":\"NotBuilt\"}8",
+        ),
+        (
+            "GET /x HTTP/1.1\r\nA\r\n\r\n",
+            "HTTP/1.1 400 Bad Request\r\nContent-Type: application/json\r\nContent-Length: 21\r\nConnection: close\r\n\r\n{\"refused\":\"BadHead\"}0",
+        ),
     ] {
-        let (status, output) = ran(alloc, &["stdio", "p"], PAGE, input.as_bytes(), SURE)?;
-        assert_eq!(rt; status, Status::NotBuilt, "{input}");
-        assert!(rt; output == times(alloc, REPLY, replies)?, "{input}");
+        assert_told(
+            &rt,
+            rt.alloc(),
+            b"<a></a>".as_slice(),
+            input.as_bytes(),
+            want.as_bytes(),
+        )?;
+    }
+    Ok(())
+}
+
+const NESTED: &[u8] = b"<a><b><i id='y'>1</i></b><i id='x'>2</i><i id='x'>3</i><i id=''>4</i></a>";
+
+// Elements by their id: a nested one before later ones, the first of two, and none.
+#[test]
+fn answers_elements(rt: HostRuntime) -> Result<(), Fail> {
+    for (input, want) in [
+        (
+            "GET /node/x HTTP/1.1\r\n\r\n",
+            "HTTP/1.1 200 OK\r\nContent-Type: text/html; charset=utf-8\r\nContent-Length: 15\r\n\r\n<i id=\"x\">2</i>0",
+        ),
+        (
+            "GET /node/y?a HTTP/1.1\r\n\r\n",
+            "HTTP/1.1 200 OK\r\nContent-Type: text/html; charset=utf-8\r\nContent-Length: 15\r\n\r\n<i id=\"y\">1</i>0",
+        ),
+        (
+            "GET /node/z HTTP/1.1\r\n\r\n",
+            "HTTP/1.1 404 Not Found\r\nContent-Type: application/json\r\nContent-Length: 22\r\n\r\n{\"refused\":\"NoTarget\"}0",
+        ),
+    ] {
+        assert_told(&rt, rt.alloc(), NESTED, input.as_bytes(), want.as_bytes())?;
     }
     Ok(())
 }
@@ -315,19 +405,24 @@ fn answers_what_was_read_before_a_fault(rt: HostRuntime) -> Result<(), Fail> {
     Ok(())
 }
 
-// One request more than a run answers.
+// One request more than a run answers, whole or refused.
 #[test]
 fn stops_at_the_bound(rt: HostRuntime) -> Result<(), Fail> {
     let alloc = rt.alloc();
     let words = words_of(alloc, &["stdio", "p"])?;
-    let mut shelf = shelf_of(alloc, b"<a></a>", 0)?;
-    let mut source = SureSource::new(times(alloc, DOM, 100_001)?);
-    let mut sink = SureSink::new(Vec::new(alloc));
-    let status = run(alloc, &words, &mut shelf, &mut source, &mut sink);
-    assert_eq!(rt; status, Status::RequestBound);
     let reply =
         b"HTTP/1.1 200 OK\r\nContent-Type: text/html; charset=utf-8\r\nContent-Length: 7\r\n\r\n<a></a>".as_slice();
-    assert!(rt; sink.bytes() == times(alloc, reply, 100_000)?.as_slice());
+    let replies = times(alloc, reply, 100_000)?;
+    for last in [DOM, b"A\r\n\r\n".as_slice()] {
+        let mut input = times(alloc, DOM, 100_000)?;
+        input.extend_from_slice(last)?;
+        let mut shelf = shelf_of(alloc, b"<a></a>", 0)?;
+        let mut source = SureSource::new(input);
+        let mut sink = SureSink::new(Vec::new(alloc));
+        let status = run(alloc, &words, &mut shelf, &mut source, &mut sink);
+        assert_eq!(rt; status, Status::RequestBound);
+        assert!(rt; sink.bytes() == replies.as_slice());
+    }
     Ok(())
 }
 

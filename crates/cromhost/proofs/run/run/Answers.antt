@@ -1,8 +1,7 @@
-use Rattle.std.proofs.Common.{◌≡◌, ℕ, List, [], take, refl, ap, sym, ◌∙◌, inl, subst, Some, Err, arith}
+use Rattle.std.proofs.Common.{◌≡◌, ◌+◌, ◌≤◌, ℕ, length, List, [], take, refl, ap, sym, ◌∙◌, subst, Some, Err, arith}
 use Rattle.std.proofs.lemmas.List.{append-nil}
 use Rattle.page_reader.specs.Page.{IsPage, IsPageFault}
 use Rattle.cell_heap.specs.Base.{heap_of}
-use Rattle.cromhost.specs.Headline.{Served}
 use Rattle.cromhost.specs.Loading.{IsScripted, LoadSays}
 use Rattle.cromhost.specs.Plain.{Loads}
 use Rattle.cromhost.proofs.Serving.{headline_of, fault_headline, fault_refused, fault_complete}
@@ -17,7 +16,7 @@ returns-in-Ok-HasScripts-clause-headline g c = λ name page bytes old w f l o.
     let got = rw c.in-Ok-Bytes.field-0-is at c.in-Ok-Bytes.ensures.bytes in
     let text : c.as_slice.result.now ≡ take 1048577 page = c.as_slice.ensures.value ∙ got page (ap (g.F.Shelf.file c.args.shelf.now) named ∙ f) in
     let says = rw c.in-Ok-HasScripts.field-0-is at c.in-Ok-HasScripts.ensures.says in
-    ([], o ∙ ap Some (sym (append-nil old)), inl (subst IsScripted text says, refl))
+    ([], o ∙ ap Some (sym (append-nil old)), (subst IsScripted text says, refl))
 
 pub returns-in-Ok-HasScripts-clause-refused : goal.returns-in-Ok-HasScripts-clause-refused
 returns-in-Ok-HasScripts-clause-refused g c = λ name page w f number at fault.
@@ -82,8 +81,7 @@ returns-clause-complete g c = λ name page bytes old w f l o whole calm_shelf ca
     let named : c.in-Some.name.now ≡ name = grind (arith, w) in
     let got = rw c.in-Ok-Bytes.field-0-is at c.in-Ok-Bytes.ensures.bytes in
     let text : c.as_slice.result.now ≡ take 1048577 page = c.as_slice.ensures.value ∙ got page (ap (g.F.Shelf.file c.args.shelf.now) named ∙ f) in
-    let says = rw c.in-Ok-Ready.field-0-is at c.in-Ok-Ready.ensures.says in
-    let loads : Loads (take 1048577 page) (heap_of c.in-Ok-Ready.base) = subst (λ (z : List ℕ). Loads z (heap_of c.in-Ok-Ready.base)) text says.0 in
-    let s = c.serve_stream.ensures.stream bytes old l o in
-    let served : Served c.serve_stream.result (take 1048577 page) bytes s.0 _ = record { start = _; last = _; count = _; loads = loads; stream = s.2 } in
-    rw c.status_of.ensures (complete_of c.serve_stream.result (take 1048577 page) bytes s.0 _ _ _ _ _ served c.serve_stream.ensures.causes whole calm_input calm_output)
+    let few : length whole.requests ≤ 100000 = whole.few in
+    let most : 0 + length whole.requests ≤ 100000 = omega (arith, few) in
+    let ended = c.serve_stream.ensures.whole bytes whole.requests l whole.whole most in
+    rw c.status_of.ensures (complete_of c.serve_stream.result _ _ _ _ ended c.serve_stream.ensures.causes calm_input calm_output)

@@ -1,17 +1,18 @@
 use Rattle.std.proofs.Common.{◌≡◌, ◌≤◌, ◌-◌}
 use Rattle.page_units.specs.Outside.{before}
-use Rattle.cell_heap.specs.Base.{heap_of}
 use Rattle.cell_places.specs.Sound.{IsSound}
-use Rattle.cromhost.specs.Stream.{Progress}
+use Rattle.cell_heap.specs.Base.{heap_of}
+use Rattle.cromhost.proofs.Fronts.{Progress, Wholes}
 use Rattle.cromhost.proofs.stream.serve_stream.Given as goal
 
--- the requests so far are answered
+-- a front of the requests is answered
 abbrev pub invariant-loop-wire : goal.invariant-loop-wire
 invariant-loop-wire g l =
     let left = g.S.Source.left in
     let told = g.W.Sink.told in
     record {
-      progress : Progress (heap_of l.fn.base) (heap_of l.base) l.fn.served l.served (left l.fn.source) (before l.wire.held.items (left l.source)) (told l.fn.sink) (told l.sink);
+      progress : Progress l.most (heap_of l.fn.base) (heap_of l.base) l.fn.served l.served (left l.fn.source) (before l.wire.frames.held.items (left l.source)) (told l.fn.sink) (told l.sink);
+      whole : Wholes l.most l.fn.served l.served (left l.fn.source) (before l.wire.frames.held.items (left l.source));
       sound : IsSound 0 (heap_of l.base);
       source : g.S.Source.faults l.source ≡ g.S.Source.faults l.fn.source;
       sink : g.W.Sink.faults l.sink ≡ g.W.Sink.faults l.fn.sink;

@@ -1,0 +1,25 @@
+use Rattle.std.proofs.Common.{ap}
+use Rattle.std.proofs.lemmas.Result.{IfOk-weaker}
+use Rattle.wire_replies.specs.declared.reply.Reply as written
+use Rattle.cromhost.specs.Replying.{tree, long_text}
+use Rattle.cromhost.specs.Plain as p
+use Rattle.cromhost.proofs.host.serve.Goals as goal
+
+pub returns-in-Some-clause-serves : goal.returns-in-Some-clause-serves
+returns-in-Some-clause-serves c =
+    let text = rw c.in-Some.is at c.in_ok-text.ensures.text in
+    let is = c.tree_reply.ensures.value in (
+      tree c.in-Some.text.items,
+      p.text c.in-Some.text.items text.0 text.1,
+      record {
+        code = ap (λ (w : written.Reply). w.status) is;
+        html = ap (λ (w : written.Reply). w.html) is;
+        allowed = ap (λ (w : written.Reply). w.allow) is;
+        text = ap (λ (w : written.Reply). w.body.items) is;
+      },
+    )
+
+pub returns-in-None-clause-serves : goal.returns-in-None-clause-serves
+returns-in-None-clause-serves c =
+    let text = rw c.in-None.is at c.in_ok-text.ensures.text in
+    IfOk-weaker c.long_text.result _ _ (λ reply is. (long_text, p.long text.0 text.1 text.2, is)) c.long_text.ensures.is
