@@ -1,6 +1,8 @@
 -- A loaded page, and what `/dom` replies.
 use Rattle.std.proofs.Common.{◌≡◌, ℕ, List, [], ap, ◌∙◌, subst}
 use Rattle.std.specs.Prelude.{Result, Err}
+use Rattle.page_units.specs.declared.limits.Limit.TheVariants.{Weight}
+use Rattle.page_units.specs.Limits.{default_limit}
 use Rattle.cell_places.specs.Heap.{Heap}
 use Rattle.cell_places.specs.View.{ground, heap}
 use Rattle.cell_places.specs.Start.{start}
@@ -14,10 +16,10 @@ use Rattle.page_reader.specs.declared.fault.PageFault.{PageFault}
 use Rattle.page_reader.specs.declared.fault.PageFault.TheVariants.{Rule, NoMemory}
 use Rattle.page_reader.specs.Reading.{ReadsPage, NoFault}
 use Rattle.cromhost.specs.Loading.{OnlyReady}
-use Rattle.cromhost.specs.Plain.{Loads, page_weight, start_moment}
+use Rattle.cromhost.specs.Plain.{Loads, start_moment}
 
 -- a page without scripts that was read into the heap of the start is loaded
-pub loaded : (H0 H1 : Heap) (page : List ℕ) (scripts : List ScriptText) → ReadsPage (ground H0) (ground H1) page scripts → scripts ≡ [] → H0 ≡ start page_weight start_moment → Loads page H1
+pub loaded : (H0 H1 : Heap) (page : List ℕ) (scripts : List ScriptText) → ReadsPage (ground H0) (ground H1) page scripts → scripts ≡ [] → H0 ≡ start (default_limit Weight) start_moment → Loads page H1
 loaded H0 H1 page scripts r none e = record {
   trees = r.trees;
   reads = subst (λ (some : List ScriptText). IsPage page r.trees some) none r.page;

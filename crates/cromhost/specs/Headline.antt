@@ -1,6 +1,8 @@
 -- What `run` says.
 use Rattle.std.specs.Prelude.{◌≡◌, ◌⊎◌, ◌≤◌, ℕ, List, [], length, Option, Result, Ok, Err, ⊤}
 use Rattle.std.specs.declared.alloc.AllocError.{AllocError}
+use Rattle.page_units.specs.declared.limits.Limit.TheVariants.{Served as ServedLimit}
+use Rattle.page_units.specs.Limits.{default_limit}
 use Rattle.page_units.specs.Outside.{Rose}
 use Rattle.cell_places.specs.Heap.{Heap}
 use Rattle.http_wire.specs.Messages.{Message}
@@ -15,10 +17,6 @@ use Rattle.cromhost.specs.declared.stream.Ended.TheVariants as end
 use Rattle.cromhost.specs.Plain.{Loads}
 use Rattle.cromhost.specs.Loading.{IsScripted}
 use Rattle.cromhost.specs.Stream.{Streamed}
-
--- how many requests are answered in a run, at the most
-abbrev pub served_requests : ℕ
-served_requests = 100000
 
 -- the status of a run whose stream ended so
 abbrev pub status_of : Result stream.Ended AllocError → Status
@@ -42,7 +40,7 @@ pub record Served (result : Result stream.Ended AllocError) (page bytes written 
   pub last : Heap
   pub count : ℕ
   pub loads : Loads page start
-  pub stream : Streamed result served_requests start last 0 count bytes written left
+  pub stream : Streamed result (default_limit ServedLimit) start last 0 count bytes written left
 
 -- What was written for the page and the bytes of the input, by the status; `left` is what is left of the input.
 abbrev pub Headline : Status → (page bytes written : List ℕ) → (left : Option (List ℕ)) → Type 0
@@ -89,4 +87,4 @@ pub record IsWhole (page bytes : List ℕ) : Type 0 where
   pub loads : Loads page heap
   pub requests : List Message
   pub whole : RequestsOf bytes requests ended
-  pub few : length requests ≤ served_requests
+  pub few : length requests ≤ default_limit ServedLimit

@@ -1,8 +1,10 @@
 -- The host that never speculates.
 use Rattle.std.specs.Prelude.{◌≡◌, ◌≤◌, ◌<◌, ◌+◌, ℕ, ℤ, pos, Bool, true, false, ◌||◌, List, [], ◌++◌, length, Option, Some, None, Result, Ok, Err}
+use Rattle.page_units.specs.declared.limits.Limit.TheVariants.{Weight, DomText}
 use Rattle.page_units.specs.declared.value.CellName.{CellName}
 use Rattle.page_units.specs.declared.event.PageEvent.{PageEvent}
 use Rattle.page_units.specs.declared.event.Response.{Response}
+use Rattle.page_units.specs.Limits.{default_limit}
 use Rattle.cell_places.specs.Heap.{Heap}
 use Rattle.cell_places.specs.Acts.{Act}
 use Rattle.cell_places.specs.Start.{start, document_cell}
@@ -20,10 +22,7 @@ use Rattle.http_wire.specs.Incoming.{Comes}
 use Rattle.http_wire.specs.Requests.{EndsAs, ended, truncated}
 use Rattle.cromhost.specs.Replying.{Reply, tree, long_text, refused, not_built, halted, bytes_of}
 
--- the weight that a page may spend, and the clock as it starts
-abbrev pub page_weight : ℕ
-page_weight = 2000000
-
+-- the clock as a page starts
 abbrev pub start_moment : ℤ
 start_moment = pos 0
 
@@ -32,20 +31,16 @@ start_moment = pos 0
 pub record Loads (page : List ℕ) (H : Heap) : Type 0 where
   pub trees : Trees
   pub reads : IsPage page trees []
-  pub heap : H ≡ planted (start page_weight start_moment) trees
+  pub heap : H ≡ planted (start (default_limit Weight) start_moment) trees
 
 -- the answers that the page's GETs and POSTs get, in order; None is a failed one
 abbrev pub Answers : Type 0
 Answers = List (Option Response)
 
--- how many bytes a served tree text may have
-abbrev pub text_bytes : ℕ
-text_bytes = 1048576
-
 -- the reply with a node's tree text, or that it is too long
 pub data Serves (H : Heap) (n : CellName) : Reply → Type 0 where
-  text : (bytes : List ℕ) → IsTreeText H n bytes → length bytes ≤ text_bytes → Serves H n (tree bytes)
-  long : (bytes : List ℕ) → IsTreeText H n bytes → text_bytes < length bytes → Serves H n long_text
+  text : (bytes : List ℕ) → IsTreeText H n bytes → length bytes ≤ default_limit DomText → Serves H n (tree bytes)
+  long : (bytes : List ℕ) → IsTreeText H n bytes → default_limit DomText < length bytes → Serves H n long_text
 
 -- the reply with the tree text of the first element with an id, or that there is none
 pub data ServesId (H : Heap) (id : List ℕ) : Reply → Type 0 where

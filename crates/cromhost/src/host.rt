@@ -15,16 +15,10 @@ ghost use Rattle.cromhost.specs.Loading.{LoadSays, OnlyReady};
 use cell_heap::Base;
 use dom_tree::{dom_text, element_by_id};
 use page_reader::{PageFault, read_page};
-use page_units::{CellName, NoMemory, Text};
+use page_units::{CellName, Limit, NoMemory, Text};
 use std::alloc::Global;
 use wire_asks::{Asked, Refusal};
 use wire_replies::{Reply, halted_reply, long_text_reply, refusal_reply, tree_reply};
-
-/// The weight that a page may spend.
-const PAGE_WEIGHT: u64 = 2_000_000;
-
-/// How many bytes a served tree text may have.
-const TREE_TEXT_BYTES: u64 = 1_048_576;
 
 /// The cell of the document.
 const DOCUMENT: CellName = CellName(2);
@@ -46,7 +40,7 @@ pub fn load(alloc: Global, page: &[u8]) -> Result<Loaded, PageFault>
     ensures only { (trees : Trees) → IsPage page.now trees [] → OnlyReady result }
     ensures only_fault { (number at : ℕ) → IsPageFault page.now number at → OnlyFault result number at }
 {
-    let mut base = Base::start(alloc, PAGE_WEIGHT, 0)?;
+    let mut base = Base::start(alloc, Limit::Weight.default_number(), 0)?;
     let parts = match read_page(alloc, &mut base, page) {
         Ok(parts) => parts,
         Err(fault) => return Err(fault),
@@ -119,7 +113,7 @@ fn serve(alloc: Global, base: &mut Base, node: CellName) -> Result<Reply, NoMemo
     ensures valid { IfOk result IsReply }
     ensures same { heap_of base.new ≡ heap_of base.old }
 {
-    match dom_text(alloc, base, node, TREE_TEXT_BYTES)? {
+    match dom_text(alloc, base, node, Limit::DomText.default_number())? {
         Some(text) => Ok(tree_reply(text)),
         None => long_text(alloc),
     }

@@ -12,11 +12,8 @@ use crate::status::Status;
 use crate::stream::{Ended, serve_stream};
 use crate::words::page_name;
 use page_reader::PageFault;
-use page_units::{FETCHED_BYTES, Fetched, NoMemory, Shelf, Sink, Source};
+use page_units::{FETCHED_BYTES, Fetched, Limit, NoMemory, Shelf, Sink, Source};
 use std::alloc::Global;
-
-/// How many requests are answered in a run, at the most.
-const SERVED_REQUESTS: u64 = 100_000;
 
 /// Loads the page that the words name, and answers the requests of the input, each before the
 /// input is asked again.
@@ -60,7 +57,7 @@ pub fn run<F: Shelf, S: Source, W: Sink>(
         alloc,
         &mut base,
         &mut served,
-        SERVED_REQUESTS,
+        Limit::Served.default_number(),
         input,
         output,
     ))

@@ -1,5 +1,6 @@
 use Rattle.std.proofs.Common.{◌≡◌, ◌+◌, ◌≤◌, ℕ, length, List, [], take, refl, ap, sym, ◌∙◌, subst, Some, Err, arith}
 use Rattle.std.proofs.lemmas.List.{append-nil}
+use Rattle.std.proofs.lemmas.Option.{same_Some}
 use Rattle.page_reader.specs.Page.{IsPage, IsPageFault}
 use Rattle.cell_heap.specs.Base.{heap_of}
 use Rattle.cromhost.specs.Loading.{IsScripted, LoadSays}
@@ -12,7 +13,7 @@ use Rattle.cromhost.proofs.run.run.Goals as goal
 
 pub returns-in-Ok-HasScripts-clause-headline : goal.returns-in-Ok-HasScripts-clause-headline
 returns-in-Ok-HasScripts-clause-headline g c = λ name page bytes old w f l o.
-    let named : c.in-Some.name.now ≡ name = grind (arith, w) in
+    let named = same_Some c.in-Some.name.now name (c.in-Some.ensures ∙ w) in
     let got = rw c.in-Ok-Bytes.field-0-is at c.in-Ok-Bytes.ensures.bytes in
     let text : c.as_slice.result.now ≡ take 1048577 page = c.as_slice.ensures.value ∙ got page (ap (g.F.Shelf.file c.args.shelf.now) named ∙ f) in
     let says = rw c.in-Ok-HasScripts.field-0-is at c.in-Ok-HasScripts.ensures.says in
@@ -20,14 +21,14 @@ returns-in-Ok-HasScripts-clause-headline g c = λ name page bytes old w f l o.
 
 pub returns-in-Ok-HasScripts-clause-refused : goal.returns-in-Ok-HasScripts-clause-refused
 returns-in-Ok-HasScripts-clause-refused g c = λ name page w f number at fault.
-    let named : c.in-Some.name.now ≡ name = grind (arith, w) in
+    let named = same_Some c.in-Some.name.now name (c.in-Some.ensures ∙ w) in
     let got = rw c.in-Ok-Bytes.field-0-is at c.in-Ok-Bytes.ensures.bytes in
     let text : c.as_slice.result.now ≡ take 1048577 page = c.as_slice.ensures.value ∙ got page (ap (g.F.Shelf.file c.args.shelf.now) named ∙ f) in
     absurd (c.in-Ok-HasScripts.ensures.only_fault number at (subst (λ (z : List ℕ). IsPageFault z number at) (sym text) fault))
 
 pub returns-in-Ok-HasScripts-clause-complete : goal.returns-in-Ok-HasScripts-clause-complete
 returns-in-Ok-HasScripts-clause-complete g c = λ name page bytes old w f l o whole calm_shelf calm_input calm_output.
-    let named : c.in-Some.name.now ≡ name = grind (arith, w) in
+    let named = same_Some c.in-Some.name.now name (c.in-Some.ensures ∙ w) in
     let got = rw c.in-Ok-Bytes.field-0-is at c.in-Ok-Bytes.ensures.bytes in
     let text : c.as_slice.result.now ≡ take 1048577 page = c.as_slice.ensures.value ∙ got page (ap (g.F.Shelf.file c.args.shelf.now) named ∙ f) in
     let only = rw c.in-Ok-HasScripts.field-0-is at c.in-Ok-HasScripts.ensures.only in
@@ -37,7 +38,7 @@ returns-in-Ok-HasScripts-clause-complete g c = λ name page bytes old w f l o wh
 
 pub returns-in-Err-load-clause-headline : goal.returns-in-Err-load-clause-headline
 returns-in-Err-load-clause-headline g c = λ name page bytes old w f l o.
-    let named : c.in-Some.name.now ≡ name = grind (arith, w) in
+    let named = same_Some c.in-Some.name.now name (c.in-Some.ensures ∙ w) in
     let got = rw c.in-Ok-Bytes.field-0-is at c.in-Ok-Bytes.ensures.bytes in
     let text : c.as_slice.result.now ≡ take 1048577 page = c.as_slice.ensures.value ∙ got page (ap (g.F.Shelf.file c.args.shelf.now) named ∙ f) in
     let says = subst (LoadSays (Err c.in-Err-load.fault)) text c.in-Err-load.ensures.says in
@@ -45,14 +46,14 @@ returns-in-Err-load-clause-headline g c = λ name page bytes old w f l o.
 
 pub returns-in-Err-load-clause-refused : goal.returns-in-Err-load-clause-refused
 returns-in-Err-load-clause-refused g c = λ name page w f number at fault.
-    let named : c.in-Some.name.now ≡ name = grind (arith, w) in
+    let named = same_Some c.in-Some.name.now name (c.in-Some.ensures ∙ w) in
     let got = rw c.in-Ok-Bytes.field-0-is at c.in-Ok-Bytes.ensures.bytes in
     let text : c.as_slice.result.now ≡ take 1048577 page = c.as_slice.ensures.value ∙ got page (ap (g.F.Shelf.file c.args.shelf.now) named ∙ f) in
     rw c.status_of_fault.ensures (fault_refused c.in-Err-load.fault number at (c.in-Err-load.ensures.only_fault number at (subst (λ (z : List ℕ). IsPageFault z number at) (sym text) fault)))
 
 pub returns-in-Err-load-clause-complete : goal.returns-in-Err-load-clause-complete
 returns-in-Err-load-clause-complete g c = λ name page bytes old w f l o whole calm_shelf calm_input calm_output.
-    let named : c.in-Some.name.now ≡ name = grind (arith, w) in
+    let named = same_Some c.in-Some.name.now name (c.in-Some.ensures ∙ w) in
     let got = rw c.in-Ok-Bytes.field-0-is at c.in-Ok-Bytes.ensures.bytes in
     let text : c.as_slice.result.now ≡ take 1048577 page = c.as_slice.ensures.value ∙ got page (ap (g.F.Shelf.file c.args.shelf.now) named ∙ f) in
     rw c.status_of_fault.ensures (fault_complete c.in-Err-load.fault (c.in-Err-load.ensures.only whole.loads.trees (subst (λ (z : List ℕ). IsPage z whole.loads.trees []) (sym text) whole.loads.reads)))
@@ -61,27 +62,27 @@ returns-in-Err-load-clause-complete g c = λ name page bytes old w f l o whole c
 
 pub returns-clause-headline : goal.returns-clause-headline
 returns-clause-headline g c = λ name page bytes old w f l o.
-    let named : c.in-Some.name.now ≡ name = grind (arith, w) in
+    let named = same_Some c.in-Some.name.now name (c.in-Some.ensures ∙ w) in
     let got = rw c.in-Ok-Bytes.field-0-is at c.in-Ok-Bytes.ensures.bytes in
     let text : c.as_slice.result.now ≡ take 1048577 page = c.as_slice.ensures.value ∙ got page (ap (g.F.Shelf.file c.args.shelf.now) named ∙ f) in
     let says = rw c.in-Ok-Ready.field-0-is at c.in-Ok-Ready.ensures.says in
     let loads : Loads (take 1048577 page) (heap_of c.in-Ok-Ready.base) = subst (λ (z : List ℕ). Loads z (heap_of c.in-Ok-Ready.base)) text says.0 in
     let s = c.serve_stream.ensures.stream bytes old l o in
-    rw c.status_of.ensures (s.0, s.1, headline_of c.serve_stream.result _ bytes s.0 _ (record { start = _; last = _; count = _; loads = loads; stream = s.2 }))
+    let stream = rw c.default_number.ensures at s.2 in
+    rw c.status_of.ensures (s.0, s.1, headline_of c.serve_stream.result _ bytes s.0 _ (record { start = _; last = _; count = _; loads = loads; stream = stream }))
 
 pub returns-clause-refused : goal.returns-clause-refused
 returns-clause-refused g c = λ name page w f number at fault.
-    let named : c.in-Some.name.now ≡ name = grind (arith, w) in
+    let named = same_Some c.in-Some.name.now name (c.in-Some.ensures ∙ w) in
     let got = rw c.in-Ok-Bytes.field-0-is at c.in-Ok-Bytes.ensures.bytes in
     let text : c.as_slice.result.now ≡ take 1048577 page = c.as_slice.ensures.value ∙ got page (ap (g.F.Shelf.file c.args.shelf.now) named ∙ f) in
     absurd (c.in-Ok-Ready.ensures.only_fault number at (subst (λ (z : List ℕ). IsPageFault z number at) (sym text) fault))
 
 pub returns-clause-complete : goal.returns-clause-complete
 returns-clause-complete g c = λ name page bytes old w f l o whole calm_shelf calm_input calm_output.
-    let named : c.in-Some.name.now ≡ name = grind (arith, w) in
+    let named = same_Some c.in-Some.name.now name (c.in-Some.ensures ∙ w) in
     let got = rw c.in-Ok-Bytes.field-0-is at c.in-Ok-Bytes.ensures.bytes in
     let text : c.as_slice.result.now ≡ take 1048577 page = c.as_slice.ensures.value ∙ got page (ap (g.F.Shelf.file c.args.shelf.now) named ∙ f) in
-    let few : length whole.requests ≤ 100000 = whole.few in
-    let most : 0 + length whole.requests ≤ 100000 = omega (arith, few) in
+    let most : 0 + length whole.requests ≤ c.default_number.result = omega (arith, whole.few) in
     let ended = c.serve_stream.ensures.whole bytes whole.requests l whole.whole most in
     rw c.status_of.ensures (complete_of c.serve_stream.result _ _ _ _ ended c.serve_stream.ensures.causes calm_input calm_output)
