@@ -6,3 +6,4 @@ pub mod Whole
 pub mod Longest
 pub mod Spellings
 pub mod Capped
+pub mod Numerals

@@ -1,12 +1,15 @@
 -- What the tokens of a script are, and which fault it shows (ECMA-262 5.1, section 7, with this project's
 -- restrictions).
-use Rattle.std.specs.Prelude.{ℕ, List, Some, Result, Ok, Err}
+use Rattle.std.specs.Prelude.{ℕ, List, Some, Result, Ok, Err, pos, ◌≤ℤ◌}
 use Rattle.grammar.specs.Grammar.{Derives}
 use Rattle.grammar.specs.Whole.{FaultAt}
+use Rattle.page_units.specs.Numbers.{IsNumber}
 use Rattle.placed_chars.specs.declared.chars.Char.{Char}
 use Rattle.placed_chars.specs.Chars.{placed, stop}
 use Rattle.js_lexer.specs.declared.fault.LexFault.{LexFault}
 use Rattle.js_lexer.specs.declared.fault.LexFault.TheVariants.{NoMemory}
+use Rattle.js_lexer.specs.declared.token.Kind.{Kind}
+use Rattle.js_lexer.specs.declared.token.Kind.TheVariants.{Num}
 use Rattle.js_lexer.specs.declared.token.Token.{Token}
 use Rattle.js_lexer.specs.Source.{source}
 
@@ -23,3 +26,8 @@ abbrev pub Judged : {A : Type 0} → (A → Type 0) → (LexFault → Type 0) �
 Judged Is Shows (Ok tokens) = Is tokens
 Judged Is Shows (Err NoMemory) = Unit {0}
 Judged Is Shows (Err fault) = Shows fault
+
+-- A token that is a number is one from 0 to 2^53 - 1.
+abbrev pub IsNumeral : Kind → Type 0
+IsNumeral (Num n) = (pos 0 ≤ℤ n) × IsNumber n
+IsNumeral kind = Unit {0}

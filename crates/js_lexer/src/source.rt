@@ -1,5 +1,5 @@
 //! Reading of a script's input elements, one behind the other (ECMA-262 5.1, section 7).
-ghost use Rattle.std.specs.Prelude.{◌≡◌, ◌++◌, ◌∷◌, ◌≤◌, List, [], length, drop, IsTrue, OnOk};
+ghost use Rattle.std.specs.Prelude.{◌≡◌, ◌++◌, ◌∷◌, ◌≤◌, List, [], length, drop, All, IsTrue, IfOk, OnOk};
 ghost use Rattle.std.specs.Str.{chars};
 ghost use Rattle.grammar.specs.Grammar.{first};
 ghost use Rattle.grammar.specs.Reading.{read};
@@ -11,7 +11,7 @@ ghost use Rattle.js_lexer.specs.Punctuators.{punct_of};
 ghost use Rattle.js_lexer.specs.Source as source;
 ghost use Rattle.js_lexer.specs.Texts as texts;
 ghost use Rattle.js_lexer.specs.Source.{lexed};
-ghost use Rattle.js_lexer.specs.Tokens.{AreTokens, LexesAs, Judged};
+ghost use Rattle.js_lexer.specs.Tokens.{AreTokens, IsNumeral, LexesAs, Judged};
 ghost use Rattle.js_lexer.specs.Reads.{Reads, ReadsAs};
 ghost use Rattle.js_lexer.specs.declared.fault.LexFault.{LexFault};
 ghost use Rattle.js_lexer.specs.declared.token.Token.{Token};
@@ -226,6 +226,8 @@ pub fn lex(alloc: Global, source: &str) -> Result<Vec<Token>, LexFault>
         → Judged (λ given. given.items ≡ tokens) (λ _. ⊥) result }
     // A script that shows a fault is refused with it.
     ensures only_fault { (fault : LexFault) → LexesAs (chars source.now) fault → Judged (λ _. ⊥) (λ given. given ≡ fault) result }
+    // Each number among them is a whole number from 0 to 2^53 - 1.
+    ensures numbers { IfOk result (λ tokens. All (λ token. IsNumeral token.kind) tokens.items) }
 {
     Lexer::new(alloc, source).source()
 }

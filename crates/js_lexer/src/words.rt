@@ -1,8 +1,10 @@
 //! Reserved words.
-ghost use Rattle.std.specs.Prelude.{◌≡◌, bytes_eq, find};
+ghost use Rattle.std.specs.Prelude.{◌≡◌, ◌++◌, bytes_eq, find, IfOk, OnOk};
 ghost use Rattle.js_lexer.specs.Words as spellings;
 
 use crate::token::Word;
+use page_units::{NoMemory, Text};
+use std::alloc::Global;
 
 const WORDS: [Word; 45] = [
     Word::Break,
@@ -105,6 +107,26 @@ impl Word {
             Word::Yield => "yield",
         }
     }
+
+    /// How it is written, as a text.
+    pub fn text(self, alloc: Global) -> Result<Text, NoMemory>
+        ensures { IfOk result (λ t. t ≡ spellings.spelling self) }
+    {
+        let spelling = self.spelling().as_bytes();
+        let mut units = Vec::with_capacity(alloc, spelling.len())?;
+        push_ascii(&mut units, spelling)?;
+        Text::of_units(units)
+    }
+}
+
+/// Puts ASCII characters.
+fn push_ascii(units: &mut Vec<u16>, characters: &[u8]) -> Result<(), NoMemory>
+    ensures { OnOk result (units.new.items ≡ units.old.items ++ characters.now) }
+{
+    for character in characters {
+        units.push(u16::from(*character))?;
+    }
+    Ok(())
 }
 
 /// Whether these units are the ASCII text of these bytes.

@@ -1,5 +1,6 @@
 use super::*;
 use crate::token::Word;
+use page_units::text_of_utf8;
 use std::process::Abort;
 use std::test::Fail;
 
@@ -20,60 +21,72 @@ fn only_kind(rt: &impl Abort, alloc: Global, source: &str) -> Result<Kind, Fail>
     Ok(token.kind)
 }
 
+/// The reserved words, as they are written.
+const RESERVED: [(&str, Word); 45] = [
+    ("break", Word::Break),
+    ("case", Word::Case),
+    ("catch", Word::Catch),
+    ("class", Word::Class),
+    ("const", Word::Const),
+    ("continue", Word::Continue),
+    ("debugger", Word::Debugger),
+    ("default", Word::Default),
+    ("delete", Word::Delete),
+    ("do", Word::Do),
+    ("else", Word::Else),
+    ("enum", Word::Enum),
+    ("export", Word::Export),
+    ("extends", Word::Extends),
+    ("false", Word::False),
+    ("finally", Word::Finally),
+    ("for", Word::For),
+    ("function", Word::Function),
+    ("if", Word::If),
+    ("implements", Word::Implements),
+    ("import", Word::Import),
+    ("in", Word::In),
+    ("instanceof", Word::Instanceof),
+    ("interface", Word::Interface),
+    ("let", Word::Let),
+    ("new", Word::New),
+    ("null", Word::Null),
+    ("package", Word::Package),
+    ("private", Word::Private),
+    ("protected", Word::Protected),
+    ("public", Word::Public),
+    ("return", Word::Return),
+    ("static", Word::Static),
+    ("super", Word::Super),
+    ("switch", Word::Switch),
+    ("this", Word::This),
+    ("throw", Word::Throw),
+    ("true", Word::True),
+    ("try", Word::Try),
+    ("typeof", Word::Typeof),
+    ("var", Word::Var),
+    ("void", Word::Void),
+    ("while", Word::While),
+    ("with", Word::With),
+    ("yield", Word::Yield),
+];
+
 #[test]
 fn reserved_words_are_words(rt: HostRuntime) -> Result<(), Fail> {
-    let rows = [
-        ("break", Word::Break),
-        ("case", Word::Case),
-        ("catch", Word::Catch),
-        ("class", Word::Class),
-        ("const", Word::Const),
-        ("continue", Word::Continue),
-        ("debugger", Word::Debugger),
-        ("default", Word::Default),
-        ("delete", Word::Delete),
-        ("do", Word::Do),
-        ("else", Word::Else),
-        ("enum", Word::Enum),
-        ("export", Word::Export),
-        ("extends", Word::Extends),
-        ("false", Word::False),
-        ("finally", Word::Finally),
-        ("for", Word::For),
-        ("function", Word::Function),
-        ("if", Word::If),
-        ("implements", Word::Implements),
-        ("import", Word::Import),
-        ("in", Word::In),
-        ("instanceof", Word::Instanceof),
-        ("interface", Word::Interface),
-        ("let", Word::Let),
-        ("new", Word::New),
-        ("null", Word::Null),
-        ("package", Word::Package),
-        ("private", Word::Private),
-        ("protected", Word::Protected),
-        ("public", Word::Public),
-        ("return", Word::Return),
-        ("static", Word::Static),
-        ("super", Word::Super),
-        ("switch", Word::Switch),
-        ("this", Word::This),
-        ("throw", Word::Throw),
-        ("true", Word::True),
-        ("try", Word::Try),
-        ("typeof", Word::Typeof),
-        ("var", Word::Var),
-        ("void", Word::Void),
-        ("while", Word::While),
-        ("with", Word::With),
-        ("yield", Word::Yield),
-    ];
-    for (source, expected) in rows {
+    for (source, expected) in RESERVED {
         match only_kind(&rt, rt.alloc(), source)? {
             Kind::Word(word) => assert_eq!(rt; word, expected),
             _ => assert!(rt; false, "{source}"),
         }
+    }
+    Ok(())
+}
+
+#[test]
+fn reserved_words_have_their_texts(rt: HostRuntime) -> Result<(), Fail> {
+    for (source, word) in RESERVED {
+        let text = word.text(rt.alloc())?;
+        let expected = text_of_utf8(rt.alloc(), source.as_bytes())?;
+        assert!(rt; Some(text) == expected, "{source}");
     }
     Ok(())
 }
