@@ -1,0 +1,109 @@
+-- Left-hand-side expressions (ECMA-262 5.1, 11.2).
+use Rattle.std.specs.Prelude.{ℕ, Bool, true, false, not, List, [], Some, None}
+use Rattle.grammar.specs.Grammar.{done, refused, or, again}
+use Rattle.grammar.specs.Words.{◌>>=◌, ◌>>◌, one, next}
+use Rattle.js_lexer.specs.declared.token.Kind.{Kind}
+use Rattle.js_lexer.specs.declared.token.Kind.TheVariants as k
+use Rattle.js_lexer.specs.declared.token.Punct.TheVariants as p
+use Rattle.js_lexer.specs.declared.token.Word.TheVariants as w
+use Rattle.js_tree.specs.declared.code.FnCode.{FnCode}
+use Rattle.js_tree.specs.declared.expr.Expr.TheVariants as e
+use Rattle.js_parser.specs.declared.context.Closer.TheVariants as c
+use Rattle.js_parser.specs.declared.operand.Operand.{Operand}
+use Rattle.js_parser.specs.declared.operand.Row.{Row}
+use Rattle.js_parser.specs.Next.{Next, of, place, shows, says, is_word_or_name, text}
+use Rattle.js_parser.specs.Words.{R, takes, deeper, sign}
+use Rattle.js_parser.specs.Operands.{nothing, both, raised, operand, over, above, row, context, level_flaw}
+use Rattle.js_parser.specs.Levels.{Level}
+use Rattle.js_parser.specs.Primary.{item, primary}
+
+abbrev pub argument_more : Level → Row → R Row
+argument_more below r = do
+  sign p.Comma
+  item below (context c.Paren) r
+
+unfoldable pub some_arguments : Level → List FnCode → R Row
+some_arguments below codes = do
+  r ← item below (context c.Paren) (row [] codes nothing)
+  r ← again (λ _ t. shows p.Comma t) (argument_more below) r
+  sign p.RightParen
+  done r
+
+-- Arguments, behind their `(`
+unfoldable pub arguments : Level → List FnCode → R Row
+arguments below codes = or (sign p.RightParen >> done (row [] codes nothing))
+    (next (λ t. not (shows p.RightParen t)) >> some_arguments below codes)
+
+-- behind `.`
+abbrev pub member : Operand → R Operand
+member x = do
+  t ← one (of is_word_or_name)
+  done (over (e.Member x.value (text t)) x)
+
+-- behind `[`
+abbrev pub index : Level → Operand → R Operand
+index below x = do
+  y ← below.expr (context c.Bracket) x.codes
+  sign p.RightBracket
+  done (above (e.Index x.value y.value) x y)
+
+-- a property
+abbrev pub is_access : Kind → Bool
+is_access (k.Punct p.Dot) = true
+is_access (k.Punct p.LeftBracket) = true
+is_access _ = false
+
+-- a property or a call
+abbrev pub is_link : Kind → Bool
+is_link (k.Punct p.Dot) = true
+is_link (k.Punct p.LeftBracket) = true
+is_link (k.Punct p.LeftParen) = true
+is_link _ = false
+
+abbrev pub call : Level → Operand → R Operand
+call below x = do
+  r ← arguments below x.codes
+  done (operand (e.Call x.value r.values) r.codes x.at (raised x.at (both x.depth r.depth)))
+
+abbrev pub link_kind : Level → Operand → Kind → R Operand
+link_kind below x (k.Punct p.Dot) = member x
+link_kind below x (k.Punct p.LeftBracket) = index below x
+link_kind below x _ = call below x
+
+abbrev pub link_by : Level → Operand → Next → R Operand
+link_by below x None = refused (λ _. None)
+link_by below x (Some t) = link_kind below x t.kind
+
+-- one property or call more
+unfoldable pub link : (Kind → Bool) → ℕ → Level → Operand → R Operand
+link class room below x = do
+  t ← takes (of class) (level_flaw room x.depth)
+  link_by below x t
+
+-- the arguments of a `new`, of which there may be none
+abbrev pub new_arguments : Level → List FnCode → R Row
+new_arguments below codes = or (sign p.LeftParen >> arguments below codes)
+    (next (λ t. not (shows p.LeftParen t)) >> done (row [] codes nothing))
+
+-- `new` with its operand and the nearest arguments (11.2.2)
+unfoldable pub construction : ℕ → Level → List FnCode → R Operand
+construction room below codes = do
+  t ← deeper room (says w.New)
+  x ← below.callee codes
+  r ← new_arguments below x.codes
+  done (operand (e.New x.value r.values) r.codes (place t) (raised (place t) (both x.depth r.depth)))
+
+abbrev pub head : ℕ → Level → List FnCode → R Operand
+head room below codes = or (construction room below codes) (primary room below codes)
+
+-- what stands behind `new`: properties belong to it, and the nearest arguments don't
+unfoldable pub callee : ℕ → Level → List FnCode → R Operand
+callee room below codes = do
+  x ← head room below codes
+  again (λ _ t. of is_access t) (link is_access room below) x
+
+-- LeftHandSideExpression
+unfoldable pub left : ℕ → Level → List FnCode → R Operand
+left room below codes = do
+  x ← head room below codes
+  again (λ _ t. of is_link t) (link is_link room below) x

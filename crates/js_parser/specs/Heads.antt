@@ -1,0 +1,100 @@
+-- `for` (ECMA-262 5.1, 12.6.3 and 12.6.4).
+use Rattle.std.specs.Prelude.{ℕ, ◌-◌, not, ◌||◌, ◌&&◌, List, Option, Some, None}
+use Rattle.grammar.specs.Grammar.{done, or}
+use Rattle.grammar.specs.Words.{◌>>=◌, ◌>>◌, one, next}
+use Rattle.js_lexer.specs.declared.token.Punct.{Punct}
+use Rattle.js_lexer.specs.declared.token.Punct.TheVariants as p
+use Rattle.js_lexer.specs.declared.token.Word.TheVariants as w
+use Rattle.js_tree.specs.declared.code.FnCode.{FnCode}
+use Rattle.js_tree.specs.declared.stmt.Stmt.{Stmt}
+use Rattle.js_tree.specs.declared.stmt.Stmt.TheVariants as s
+use Rattle.js_parser.specs.declared.context.Closer.TheVariants as c
+use Rattle.js_parser.specs.declared.context.Closer.{Closer}
+use Rattle.js_parser.specs.declared.context.Inside.{Inside}
+use Rattle.js_parser.specs.declared.depth.Depth.{Depth}
+use Rattle.js_parser.specs.declared.operand.Operand.{Operand}
+use Rattle.js_parser.specs.declared.operand.Part.{Part}
+use Rattle.js_parser.specs.declared.series.State.{State}
+use Rattle.js_parser.specs.declared.series.Said.{Said}
+use Rattle.js_parser.specs.Next.{Next, place, shows, says}
+use Rattle.js_parser.specs.Words.{R, takes, sign, word, name}
+use Rattle.js_parser.specs.Operands.{nothing, both, raised, part, context, first_context, level_flaw, is_bare_name, name_of}
+use Rattle.js_parser.specs.Levels.{Level}
+use Rattle.js_parser.specs.Functions.{state}
+use Rattle.js_parser.specs.Statements.{said, declared, turning}
+
+-- an expression that may be left out, to the punctuator behind it
+unfoldable pub head_part : Level → Closer → Punct → List FnCode → R Part
+head_part below closer end codes = or
+    (sign end >> done (part None codes nothing))
+    (do
+      next (λ t. not (shows end t))
+      x ← below.expr (context closer) codes
+      sign end
+      done (part (Some x.value) x.codes x.depth))
+
+-- behind the first `;`
+unfoldable pub for_rest : Level → Inside → Next → Option Stmt → State → Depth → R Said
+for_rest below inside t head added depth = do
+  y ← head_part below c.Semicolon p.Semicolon added.codes
+  z ← head_part below c.Paren p.RightParen y.codes
+  v ← below.statement (turning inside) (state z.codes added.vars)
+  done (said (s.For head y.value z.value v.stmt) v.state (place t) (both (both (both depth y.depth) z.depth) v.depth))
+
+-- behind `in`
+unfoldable pub for_each : Level → Inside → Next → List ℕ → State → R Said
+for_each below inside t n added = do
+  x ← below.expr (context c.Paren) added.codes
+  sign p.RightParen
+  v ← below.statement (turning inside) (state x.codes added.vars)
+  done (said (s.ForIn n x.value v.stmt) v.state (place t) (both x.depth v.depth))
+
+-- behind a `var` without its `;`
+abbrev pub for_declared : Level → Inside → Next → Said → R Said
+for_declared below inside t d = do
+  sign p.Semicolon
+  for_rest below inside t (Some d.stmt) d.state d.depth
+
+-- behind `var`, which stands there, and the first name, where no `in` stands
+abbrev pub for_listed : Level → Inside → Next → ℕ → State → List ℕ → R Said
+for_listed below inside t at added n = do
+  d ← below.variables first_context at n added
+  for_declared below inside t d
+
+abbrev pub for_named : Level → Inside → Next → ℕ → State → List ℕ → R Said
+for_named below inside t at added n = or
+    (do
+      word w.In
+      for_each below inside t n (declared added n))
+    (do
+      next (λ a. not (says w.In a))
+      for_listed below inside t at added n)
+
+unfoldable pub for_variables : Level → Inside → Next → ℕ → State → R Said
+for_variables below inside t at added = do
+  n ← name
+  for_named below inside t at added n
+
+-- behind an expression; `in` stands behind a name alone, and as a statement the expression takes a level more
+unfoldable pub for_expression : ℕ → Level → Inside → Next → List (List ℕ) → Operand → R Said
+for_expression room below inside t vars x = or
+    (do
+      one (λ u. says w.In u && is_bare_name x)
+      for_each below inside t (name_of x.value) (state x.codes vars))
+    (do
+      takes (shows p.Semicolon) (level_flaw (room - 1) x.depth)
+      for_rest below inside t (Some (s.Expr x.value)) (state x.codes vars) (raised x.at x.depth))
+
+unfoldable pub for_head : ℕ → Level → Inside → Next → State → R Said
+for_head room below inside t added = or
+    (sign p.Semicolon >> for_rest below inside t None added nothing)
+    (or (do
+      u ← one (says w.Var)
+      for_variables below inside t (place u) added)
+    (do
+      next (λ u. not (shows p.Semicolon u || says w.Var u))
+      x ← below.first added.codes
+      for_expression room below inside t added.vars x))
+
+unfoldable pub for_statement : ℕ → Level → Inside → State → Next → R Said
+for_statement room below inside added t = sign p.LeftParen >> for_head room below inside t added

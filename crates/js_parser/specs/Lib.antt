@@ -1,0 +1,15 @@
+pub mod Next
+pub mod Operators
+pub mod Words
+pub mod Operands
+pub mod Levels
+pub mod Functions
+pub mod Primary
+pub mod Chains
+pub mod Expressions
+pub mod Statements
+pub mod Heads
+pub mod Sources
+pub mod Reads
+pub mod Faults
+pub mod Scripts

@@ -1,0 +1,84 @@
+//! What is wrong with a script.
+ghost use Rattle.std.specs.Prelude.{◌≡◌};
+ghost use Rattle.js_parser.specs.declared.fault.ParseError.TheVariants.{Memory};
+ghost use Rattle.js_parser.specs.declared.fault.ScriptFault.TheVariants.{NoMemory};
+ghost use Rattle.js_parser.specs.Faults as faults;
+
+use js_lexer::LexFault;
+use std::alloc::AllocError;
+
+/// Why a script is none. Places are byte offsets in the source; the end's is the source's length.
+#[derive(Clone, Copy, Debug, PartialEq, Eq)]
+pub enum ScriptFault {
+    /// It is no row of tokens.
+    Lex(LexFault),
+    /// A token, or the end, fits no rule; or a target, a name or a key before it is wrong, at that.
+    Syntax(u32),
+    /// A node would have level 129, where it begins.
+    Nesting(u32),
+    /// A form that is left out of the language.
+    LeftOut(u32),
+    /// The allocator refused; nothing is said of the script.
+    NoMemory,
+}
+
+impl From<AllocError> for ScriptFault {
+    ghost from_gives = { λ _ e. e ≡ NoMemory };
+
+    fn from(_error: AllocError) -> ScriptFault {
+        ScriptFault::NoMemory
+    }
+}
+
+impl ScriptFault {
+    /// What is wrong with the tokens' own form.
+    pub(crate) fn of_lexer(fault: LexFault) -> ScriptFault
+        ensures { result ≡ faults.of_lexer fault }
+    {
+        match fault {
+            LexFault::NoMemory => ScriptFault::NoMemory,
+            fault => ScriptFault::Lex(fault),
+        }
+    }
+
+    /// What a token shows.
+    pub(crate) fn of(fault: Fault) -> ScriptFault
+        ensures { result ≡ faults.of fault }
+    {
+        match fault {
+            Fault::LeftOut(at) => ScriptFault::LeftOut(at),
+            Fault::Nesting(at) => ScriptFault::Nesting(at),
+            Fault::Syntax(at) => ScriptFault::Syntax(at),
+        }
+    }
+}
+
+/// What a token that fits no rule shows, and where. Places are byte offsets in the source.
+#[derive(Clone, Copy, Debug, PartialEq, Eq)]
+pub(crate) enum Fault {
+    /// A form that is left out of the language.
+    LeftOut(u32),
+    /// A node of level 129.
+    Nesting(u32),
+    /// What else is wrong before the token, and is told by it.
+    Syntax(u32),
+}
+
+/// Why a rule reads nothing.
+#[derive(Debug, Drop)]
+pub(crate) enum ParseError {
+    /// The allocator refused.
+    Memory,
+    /// The next token fits no rule.
+    Unfit,
+    /// The next token shows this.
+    Shown(Fault),
+}
+
+impl From<AllocError> for ParseError {
+    ghost from_gives = { λ _ e. e ≡ Memory };
+
+    fn from(_error: AllocError) -> ParseError {
+        ParseError::Memory
+    }
+}

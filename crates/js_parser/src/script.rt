@@ -1,0 +1,93 @@
+//! Whole scripts (ECMA-262 5.1, section 14).
+ghost use Rattle.std.specs.Prelude.{◌≡◌, ◌≤◌, None, length, IfOk, OnOk};
+ghost use Rattle.std.specs.Str.{chars};
+ghost use Rattle.grammar.specs.Grammar.{first};
+ghost use Rattle.grammar.specs.Reading.{read};
+ghost use Rattle.js_tree.specs.declared.code.Program.{Program};
+ghost use Rattle.js_tree.specs.Valid.{IsValid};
+ghost use Rattle.js_parser.specs.declared.fault.ScriptFault.{ScriptFault};
+ghost use Rattle.js_parser.specs.Scripts as scripts;
+ghost use Rattle.js_parser.specs.Scripts.{IsProgram, TokensFaultAt, IsScript, ScriptFaultAt, Judged};
+ghost use Rattle.js_parser.specs.Sources as sources;
+ghost use Rattle.js_parser.specs.Reads.{Reads};
+
+use crate::context::Inside;
+use crate::cursor::Parser;
+use crate::fault::{Fault, ParseError, ScriptFault};
+use crate::series::{Body, State};
+use js_lexer::{Kind, Token, Word, lex};
+use js_tree::Program;
+use sqlite_items::Items;
+use std::alloc::Global;
+
+impl<'a> Parser<'a> {
+    /// A whole program.
+    #[tactic(auto, unfolding(crate::specs::Sources::program))]
+    pub(crate) fn program(&mut self) -> Result<Program, ParseError>
+        ensures value { Reads (read None sources.program self.old) result self.new }
+        ensures over { OnOk result (first self.new None ≡ None) }
+    {
+        let mut body = Body::new(self.alloc(), Items::new(self.alloc()));
+        'sources: while self.peek().is_some() {
+            body = self.source(Inside::script(), 128, body)?;
+        }
+        let State { codes, vars } = body.state;
+        Ok(Program {
+            codes,
+            body: body.stmts,
+            vars,
+            funs: body.funs,
+        })
+    }
+
+    /// What the next token shows where it fits no rule, or the end, which is at this byte.
+    fn misfit(&self, end: u32) -> Fault
+        ensures { result ≡ scripts.misfit end (first self.now None) }
+    {
+        match self.peek() {
+            Some(token) => match token.kind {
+                Kind::Word(Word::With | Word::Debugger) => Fault::LeftOut(token.at),
+                _ => Fault::Syntax(token.at),
+            },
+            None => Fault::Syntax(end),
+        }
+    }
+}
+
+/// The program of a script's tokens; its end is at this byte.
+fn parse_tokens(alloc: Global, tokens: &[Token], end: u32) -> Result<Program, ScriptFault>
+    ensures { Judged (IsProgram tokens.now) (TokensFaultAt end tokens.now) result }
+{
+    let mut parser = Parser::new(alloc, tokens);
+    match parser.program() {
+        Ok(program) => Ok(program),
+        Err(ParseError::Memory) => Err(ScriptFault::NoMemory),
+        Err(ParseError::Shown(fault)) => Err(ScriptFault::of(fault)),
+        Err(ParseError::Unfit) => Err(ScriptFault::of(parser.misfit(end))),
+    }
+}
+
+/// The program of a script: exactly where its tokens are one (ECMA-262 5.1, sections 11 to 14, in strict code, less what
+/// pages may not use). The source has at most 2^20 bytes.
+///
+/// # Errors
+///
+/// The fault of the shortest front of the script that begins none, with its place; the faults of tokens come first. Or
+/// `NoMemory`, where the allocator refused.
+pub fn parse(alloc: Global, source: &str) -> Result<Program, ScriptFault>
+    requires { length source.now ≤ 1048576 }
+    // What is given is the script's program, and what is refused shows that fault.
+    ensures found { Judged (IsScript (chars source.now)) (ScriptFaultAt (length source.now) (chars source.now)) result }
+    // A script that has a program gives it.
+    ensures only { (program : Program) → IsScript (chars source.now) program → Judged (λ given. given ≡ program) (λ _. ⊥) result }
+    // A script that shows a fault is refused with it.
+    ensures only_fault { (fault : ScriptFault) → ScriptFaultAt (length source.now) (chars source.now) fault
+        → Judged (λ _. ⊥) (λ given. given ≡ fault) result }
+    // Each program is valid.
+    ensures valid { IfOk result IsValid }
+{
+    match lex(alloc, source) {
+        Ok(tokens) => parse_tokens(alloc, tokens.as_slice(), source.len() as u32),
+        Err(fault) => Err(ScriptFault::of_lexer(fault)),
+    }
+}
