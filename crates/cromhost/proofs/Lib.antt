@@ -1,4 +1,7 @@
+pub mod Checks
+pub mod Commands
 pub mod Complete
+pub mod Counting
 pub mod Fronts
 pub mod Hosting
 pub mod Obeying

@@ -1,4 +1,4 @@
--- What `run` says.
+-- What `run` says of the page that is loaded, and of faults.
 use Rattle.std.specs.Prelude.{◌≡◌, ◌⊎◌, ◌≤◌, ℕ, List, [], length, Option, Result, Ok, Err, ⊤}
 use Rattle.std.specs.declared.alloc.AllocError.{AllocError}
 use Rattle.page_units.specs.declared.limits.Limit.TheVariants.{Served as ServedLimit}
@@ -11,7 +11,7 @@ use Rattle.page_reader.specs.declared.fault.PageFault.{PageFault}
 use Rattle.page_reader.specs.declared.fault.PageFault.TheVariants as fault
 use Rattle.page_reader.specs.Page.{IsPageFault}
 use Rattle.cromhost.specs.declared.status.Status.{Status}
-use Rattle.cromhost.specs.declared.status.Status.TheVariants.{Ended, Usage, Page, NotBuilt, ReadFault, WriteFault, NoMemory, ShelfFault, Truncated, RequestBound}
+use Rattle.cromhost.specs.declared.status.Status.TheVariants.{Ended, Usage, Page, Script, NotBuilt, ReadFault, WriteFault, NoMemory, ShelfFault, Truncated, RequestBound}
 use Rattle.cromhost.specs.declared.stream.Ended as stream
 use Rattle.cromhost.specs.declared.stream.Ended.TheVariants as end
 use Rattle.cromhost.specs.Plain.{Loads}
@@ -48,6 +48,7 @@ Headline Usage page bytes written left = ⊥
 Headline ShelfFault page bytes written left = written ≡ []
 Headline (Page (fault.Rule number at)) page bytes written left = IsPageFault page number at × (written ≡ [])
 Headline (Page fault.NoMemory) page bytes written left = ⊥
+Headline (Script index fault) page bytes written left = ⊥
 Headline NotBuilt page bytes written left = IsScripted page × (written ≡ [])
 Headline NoMemory page bytes written left = (written ≡ []) ⊎ ((e : AllocError) × Served (Err e) page bytes written left)
 Headline Ended page bytes written left =
@@ -73,6 +74,7 @@ abbrev pub Causes : Status → (shelf shelf' input input' output output' : ℕ) 
 Causes Ended shelf shelf' input input' output output' = Calm shelf shelf' input input' output output'
 Causes Usage shelf shelf' input input' output output' = Calm shelf shelf' input input' output output'
 Causes (Page fault) shelf shelf' input input' output output' = Calm shelf shelf' input input' output output'
+Causes (Script index fault) shelf shelf' input input' output output' = Calm shelf shelf' input input' output output'
 Causes NotBuilt shelf shelf' input input' output output' = Calm shelf shelf' input input' output output'
 Causes Truncated shelf shelf' input input' output output' = Calm shelf shelf' input input' output output'
 Causes RequestBound shelf shelf' input input' output output' = Calm shelf shelf' input input' output output'

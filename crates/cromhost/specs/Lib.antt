@@ -1,3 +1,5 @@
+pub mod Checking
+pub mod Faults
 pub mod Headline
 pub mod Loading
 pub mod Plain

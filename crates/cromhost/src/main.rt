@@ -2,9 +2,12 @@
 //! over a shelf, a source and a sink; `main` hands it the real ones.
 #![tactic(auto)]
 
+mod check;
+mod fault;
 mod host;
 mod run;
 mod status;
+mod stdio;
 mod stream;
 #[cfg(test)]
 mod tests;

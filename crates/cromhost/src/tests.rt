@@ -1,6 +1,7 @@
 //! Whole runs over objects in memory.
 use crate::run::run;
 use crate::status::Status;
+use js_parser::ScriptFault;
 use page_reader::PageFault;
 use page_units::{MemoryShelf, MemorySink, MemorySource, NoMemory, SureSink, SureSource};
 use std::alloc::Global;
@@ -103,6 +104,10 @@ fn refuses_words(rt: HostRuntime) -> Result<(), Fail> {
         &["stdio", "p", "p"],
         &["stdio", "-x"],
         &["p", "stdio"],
+        &["check"],
+        &["check", "-x"],
+        &["check", "p", "p"],
+        &["stdio check", "p"],
     ] {
         let (status, output) = ran(alloc, words, b"<html></html>", DOM, SURE)?;
         assert_eq!(rt; status, Status::Usage, "{words:?}");
@@ -392,4 +397,5 @@ fn tells_faults(rt: HostRuntime) -> Result<(), Fail> {
     Ok(())
 }
 
+mod checks;
 mod pages;

@@ -4,14 +4,14 @@ ghost use Rattle.std.specs.Option.{option_copied};
 ghost use Rattle.std.specs.String.{string_bytes};
 ghost use Rattle.cromhost.specs.Words.{page_word};
 
-/// The page's name, where the words are `stdio PAGE` and PAGE doesn't begin with `-`; else None.
-pub fn page_name(words: &Vec<String>) -> Option<&str>
-    ensures { option_copied result ≡ page_word (map string_bytes words.now.items) }
+/// The page's name, where the words are this command and PAGE, which doesn't begin with `-`; else None.
+pub fn page_name<'a>(words: &'a Vec<String>, command: &str) -> Option<&'a str>
+    ensures { option_copied result ≡ page_word command.now (map string_bytes words.now.items) }
 {
     match words.as_slice() {
-        [command, page] => {
+        [word, page] => {
             let name = page.as_str();
-            if command.as_str() != "stdio" {
+            if word.as_str() != command {
                 return None;
             }
             match name.as_bytes().first() {

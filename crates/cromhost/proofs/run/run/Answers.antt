@@ -1,88 +1,67 @@
-use Rattle.std.proofs.Common.{◌≡◌, ◌+◌, ◌≤◌, ℕ, length, List, [], take, refl, ap, sym, ◌∙◌, subst, Some, Err, arith}
-use Rattle.std.proofs.lemmas.List.{append-nil}
+use Rattle.std.proofs.Common.{◌≡◌, ◌∙◌, ℕ, List, map, ap, inl, inr, sym, Some, None, Global}
+use Rattle.std.specs.String.{string_bytes}
 use Rattle.std.proofs.lemmas.Option.{same_Some}
-use Rattle.page_reader.specs.Page.{IsPage, IsPageFault}
-use Rattle.cell_heap.specs.Base.{heap_of}
-use Rattle.cromhost.specs.Loading.{IsScripted, LoadSays}
-use Rattle.cromhost.specs.Plain.{Loads}
-use Rattle.cromhost.proofs.Serving.{headline_of, fault_headline, fault_refused, fault_complete}
-use Rattle.cromhost.proofs.Complete.{complete_of}
+use Rattle.cromhost.proofs.Commands.{one_command}
 use Rattle.cromhost.proofs.run.run.Goals as goal
-
--- ---- the page has a script
-
-pub returns-in-Ok-HasScripts-clause-headline : goal.returns-in-Ok-HasScripts-clause-headline
-returns-in-Ok-HasScripts-clause-headline g c = λ name page bytes old w f l o.
-    let named = same_Some c.in-Some.name.now name (c.in-Some.ensures ∙ w) in
-    let got = rw c.in-Ok-Bytes.field-0-is at c.in-Ok-Bytes.ensures.bytes in
-    let text : c.as_slice.result.now ≡ take 1048577 page = c.as_slice.ensures.value ∙ got page (ap (g.F.Shelf.file c.args.shelf.now) named ∙ f) in
-    let says = rw c.in-Ok-HasScripts.field-0-is at c.in-Ok-HasScripts.ensures.says in
-    ([], o ∙ ap Some (sym (append-nil old)), (subst IsScripted text says, refl))
-
-pub returns-in-Ok-HasScripts-clause-refused : goal.returns-in-Ok-HasScripts-clause-refused
-returns-in-Ok-HasScripts-clause-refused g c = λ name page w f number at fault.
-    let named = same_Some c.in-Some.name.now name (c.in-Some.ensures ∙ w) in
-    let got = rw c.in-Ok-Bytes.field-0-is at c.in-Ok-Bytes.ensures.bytes in
-    let text : c.as_slice.result.now ≡ take 1048577 page = c.as_slice.ensures.value ∙ got page (ap (g.F.Shelf.file c.args.shelf.now) named ∙ f) in
-    absurd (c.in-Ok-HasScripts.ensures.only_fault number at (subst (λ (z : List ℕ). IsPageFault z number at) (sym text) fault))
-
-pub returns-in-Ok-HasScripts-clause-complete : goal.returns-in-Ok-HasScripts-clause-complete
-returns-in-Ok-HasScripts-clause-complete g c = λ name page bytes old w f l o whole calm_shelf calm_input calm_output.
-    let named = same_Some c.in-Some.name.now name (c.in-Some.ensures ∙ w) in
-    let got = rw c.in-Ok-Bytes.field-0-is at c.in-Ok-Bytes.ensures.bytes in
-    let text : c.as_slice.result.now ≡ take 1048577 page = c.as_slice.ensures.value ∙ got page (ap (g.F.Shelf.file c.args.shelf.now) named ∙ f) in
-    let only = rw c.in-Ok-HasScripts.field-0-is at c.in-Ok-HasScripts.ensures.only in
-    absurd (only whole.loads.trees (subst (λ (z : List ℕ). IsPage z whole.loads.trees []) (sym text) whole.loads.reads))
-
--- ---- the page breaks a rule
-
-pub returns-in-Err-load-clause-headline : goal.returns-in-Err-load-clause-headline
-returns-in-Err-load-clause-headline g c = λ name page bytes old w f l o.
-    let named = same_Some c.in-Some.name.now name (c.in-Some.ensures ∙ w) in
-    let got = rw c.in-Ok-Bytes.field-0-is at c.in-Ok-Bytes.ensures.bytes in
-    let text : c.as_slice.result.now ≡ take 1048577 page = c.as_slice.ensures.value ∙ got page (ap (g.F.Shelf.file c.args.shelf.now) named ∙ f) in
-    let says = subst (LoadSays (Err c.in-Err-load.fault)) text c.in-Err-load.ensures.says in
-    rw c.status_of_fault.ensures ([], o ∙ ap Some (sym (append-nil old)), fault_headline c.in-Err-load.fault (take 1048577 page) bytes _ says)
-
-pub returns-in-Err-load-clause-refused : goal.returns-in-Err-load-clause-refused
-returns-in-Err-load-clause-refused g c = λ name page w f number at fault.
-    let named = same_Some c.in-Some.name.now name (c.in-Some.ensures ∙ w) in
-    let got = rw c.in-Ok-Bytes.field-0-is at c.in-Ok-Bytes.ensures.bytes in
-    let text : c.as_slice.result.now ≡ take 1048577 page = c.as_slice.ensures.value ∙ got page (ap (g.F.Shelf.file c.args.shelf.now) named ∙ f) in
-    rw c.status_of_fault.ensures (fault_refused c.in-Err-load.fault number at (c.in-Err-load.ensures.only_fault number at (subst (λ (z : List ℕ). IsPageFault z number at) (sym text) fault)))
-
-pub returns-in-Err-load-clause-complete : goal.returns-in-Err-load-clause-complete
-returns-in-Err-load-clause-complete g c = λ name page bytes old w f l o whole calm_shelf calm_input calm_output.
-    let named = same_Some c.in-Some.name.now name (c.in-Some.ensures ∙ w) in
-    let got = rw c.in-Ok-Bytes.field-0-is at c.in-Ok-Bytes.ensures.bytes in
-    let text : c.as_slice.result.now ≡ take 1048577 page = c.as_slice.ensures.value ∙ got page (ap (g.F.Shelf.file c.args.shelf.now) named ∙ f) in
-    rw c.status_of_fault.ensures (fault_complete c.in-Err-load.fault (c.in-Err-load.ensures.only whole.loads.trees (subst (λ (z : List ℕ). IsPage z whole.loads.trees []) (sym text) whole.loads.reads)))
 
 -- ---- the page is loaded
 
-pub returns-clause-headline : goal.returns-clause-headline
-returns-clause-headline g c = λ name page bytes old w f l o.
+pub returns-in-Some-clause-headline : goal.returns-in-Some-clause-headline
+returns-in-Some-clause-headline g c name page bytes old w f l o =
     let named = same_Some c.in-Some.name.now name (c.in-Some.ensures ∙ w) in
-    let got = rw c.in-Ok-Bytes.field-0-is at c.in-Ok-Bytes.ensures.bytes in
-    let text : c.as_slice.result.now ≡ take 1048577 page = c.as_slice.ensures.value ∙ got page (ap (g.F.Shelf.file c.args.shelf.now) named ∙ f) in
-    let says = rw c.in-Ok-Ready.field-0-is at c.in-Ok-Ready.ensures.says in
-    let loads : Loads (take 1048577 page) (heap_of c.in-Ok-Ready.base) = subst (λ (z : List ℕ). Loads z (heap_of c.in-Ok-Ready.base)) text says.0 in
-    let s = c.serve_stream.ensures.stream bytes old l o in
-    let stream = rw c.default_number.ensures at s.2 in
-    rw c.status_of.ensures (s.0, s.1, headline_of c.serve_stream.result _ bytes s.0 _ (record { start = _; last = _; count = _; loads = loads; stream = stream }))
+    c.stdio.ensures.headline page bytes old (ap (g.F.Shelf.file c.args.shelf.now) named ∙ f) l o
 
-pub returns-clause-refused : goal.returns-clause-refused
-returns-clause-refused g c = λ name page w f number at fault.
-    let named = same_Some c.in-Some.name.now name (c.in-Some.ensures ∙ w) in
-    let got = rw c.in-Ok-Bytes.field-0-is at c.in-Ok-Bytes.ensures.bytes in
-    let text : c.as_slice.result.now ≡ take 1048577 page = c.as_slice.ensures.value ∙ got page (ap (g.F.Shelf.file c.args.shelf.now) named ∙ f) in
-    absurd (c.in-Ok-Ready.ensures.only_fault number at (subst (λ (z : List ℕ). IsPageFault z number at) (sym text) fault))
+pub returns-in-Some-clause-checked : goal.returns-in-Some-clause-checked
+returns-in-Some-clause-checked g c name page old w f o = absurd (one_command (map (string_bytes {Z = Global}) c.args.words.now.items) c.in-Some.name.now name (sym c.in-Some.ensures) w)
 
-pub returns-clause-complete : goal.returns-clause-complete
-returns-clause-complete g c = λ name page bytes old w f l o whole calm_shelf calm_input calm_output.
+pub returns-in-Some-clause-unread : goal.returns-in-Some-clause-unread
+returns-in-Some-clause-unread g c name w = absurd (one_command (map (string_bytes {Z = Global}) c.args.words.now.items) c.in-Some.name.now name (sym c.in-Some.ensures) w)
+
+pub returns-in-Some-clause-refused : goal.returns-in-Some-clause-refused
+returns-in-Some-clause-refused g c name page (inl w) f number at fault =
     let named = same_Some c.in-Some.name.now name (c.in-Some.ensures ∙ w) in
-    let got = rw c.in-Ok-Bytes.field-0-is at c.in-Ok-Bytes.ensures.bytes in
-    let text : c.as_slice.result.now ≡ take 1048577 page = c.as_slice.ensures.value ∙ got page (ap (g.F.Shelf.file c.args.shelf.now) named ∙ f) in
-    let most : 0 + length whole.requests ≤ c.default_number.result = omega (arith, whole.few) in
-    let ended = c.serve_stream.ensures.whole bytes whole.requests l whole.whole most in
-    rw c.status_of.ensures (complete_of c.serve_stream.result _ _ _ _ ended c.serve_stream.ensures.causes calm_input calm_output)
+    c.stdio.ensures.refused page (ap (g.F.Shelf.file c.args.shelf.now) named ∙ f) number at fault
+returns-in-Some-clause-refused g c name page (inr w) f number at fault = absurd (one_command (map (string_bytes {Z = Global}) c.args.words.now.items) c.in-Some.name.now name (sym c.in-Some.ensures) w)
+
+pub returns-in-Some-clause-refused_script : goal.returns-in-Some-clause-refused_script
+returns-in-Some-clause-refused_script g c name page w f index fault shows = absurd (one_command (map (string_bytes {Z = Global}) c.args.words.now.items) c.in-Some.name.now name (sym c.in-Some.ensures) w)
+
+pub returns-in-Some-clause-complete : goal.returns-in-Some-clause-complete
+returns-in-Some-clause-complete g c name page bytes old w f l o whole calm_shelf calm_input calm_output =
+    let named = same_Some c.in-Some.name.now name (c.in-Some.ensures ∙ w) in
+    c.stdio.ensures.complete page bytes old (ap (g.F.Shelf.file c.args.shelf.now) named ∙ f) l o whole calm_shelf calm_input calm_output
+
+pub returns-in-Some-clause-complete_check : goal.returns-in-Some-clause-complete_check
+returns-in-Some-clause-complete_check g c name page w f count checked calm_shelf calm_output = absurd (one_command (map (string_bytes {Z = Global}) c.args.words.now.items) c.in-Some.name.now name (sym c.in-Some.ensures) w)
+
+-- ---- the page is checked
+
+pub returns-in-Some-page_name-clause-checked : goal.returns-in-Some-page_name-clause-checked
+returns-in-Some-page_name-clause-checked g c name page old w f o =
+    let named = same_Some c.in-Some-page_name.name.now name (c.in-Some-page_name.ensures ∙ w) in
+    c.check.ensures.checked page old (ap (g.F.Shelf.file c.args.shelf.now) named ∙ f) o
+
+pub returns-in-Some-page_name-clause-refused : goal.returns-in-Some-page_name-clause-refused
+returns-in-Some-page_name-clause-refused g c name page (inl w) f number at fault = absurd (one_command (map (string_bytes {Z = Global}) c.args.words.now.items) name c.in-Some-page_name.name.now w (sym c.in-Some-page_name.ensures))
+returns-in-Some-page_name-clause-refused g c name page (inr w) f number at fault =
+    let named = same_Some c.in-Some-page_name.name.now name (c.in-Some-page_name.ensures ∙ w) in
+    c.check.ensures.refused page (ap (g.F.Shelf.file c.args.shelf.now) named ∙ f) number at fault
+
+pub returns-in-Some-page_name-clause-refused_script : goal.returns-in-Some-page_name-clause-refused_script
+returns-in-Some-page_name-clause-refused_script g c name page w f index fault shows =
+    let named = same_Some c.in-Some-page_name.name.now name (c.in-Some-page_name.ensures ∙ w) in
+    c.check.ensures.refused_script page (ap (g.F.Shelf.file c.args.shelf.now) named ∙ f) index fault shows
+
+pub returns-in-Some-page_name-clause-complete_check : goal.returns-in-Some-page_name-clause-complete_check
+returns-in-Some-page_name-clause-complete_check g c name page w f count checked calm_shelf calm_output =
+    let named = same_Some c.in-Some-page_name.name.now name (c.in-Some-page_name.ensures ∙ w) in
+    c.check.ensures.complete page (ap (g.F.Shelf.file c.args.shelf.now) named ∙ f) count checked calm_shelf calm_output
+
+-- ---- the words are of no command
+
+no_name : (name : List ℕ) → None ≡ Some name → ⊥
+no_name name e = absurd cc
+
+pub returns-in-None-page_name-clause-refused : goal.returns-in-None-page_name-clause-refused
+returns-in-None-page_name-clause-refused g c name page (inl w) f number at fault = absurd (no_name name (c.in-None.ensures ∙ w))
+returns-in-None-page_name-clause-refused g c name page (inr w) f number at fault = absurd (no_name name (c.in-None-page_name.ensures ∙ w))
