@@ -23,6 +23,3 @@ mod statements;
 
 pub use fault::ScriptFault;
 pub use script::parse;
-
-#[cfg(test)]
-mod tests;

@@ -1,5 +1,5 @@
-use crate::{ScriptFault, parse};
 use js_lexer::LexFault;
+use js_parser::{ScriptFault, parse};
 use js_tree::Stmt;
 use std::alloc::{AllocError, Global};
 use std::process::Abort;
