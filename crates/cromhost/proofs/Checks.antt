@@ -9,7 +9,7 @@ use Rattle.cromhost.specs.declared.status.Status.{Status}
 use Rattle.cromhost.specs.declared.status.Status.TheVariants as s
 use Rattle.cromhost.specs.Faults.{status_of}
 use Rattle.cromhost.specs.Headline.{Causes, Calm, IsRefused}
-use Rattle.cromhost.specs.Checking.{IsChecked, CountSays, OnlyCount, OnlyRule, OnlyScript, count_line, Writes, Checked, IsScriptRefused}
+use Rattle.cromhost.specs.Checking.{IsChecked, CountSays, OnlyCount, OnlyRule, OnlyScript, count_line, Writes, Checked, IsScriptRefused, EndsCheck}
 
 -- ---- the page or a script is none
 
@@ -47,6 +47,12 @@ fault_no_usage (load.Page (page.Rule n a)) e = absurd cc
 fault_no_usage (load.Page page.NoMemory) e = absurd cc
 fault_no_usage (load.Script i g) e = absurd cc
 fault_no_usage load.NoMemory e = absurd cc
+
+pub fault_ends : (fault : LoadFault) (bytes : List ℕ) → CountSays (Err fault) bytes → EndsCheck (status_of fault)
+fault_ends (load.Page (page.Rule n a)) bytes says = tt
+fault_ends (load.Page page.NoMemory) bytes says = absurd says
+fault_ends (load.Script i g) bytes says = tt
+fault_ends load.NoMemory bytes says = tt
 
 -- ---- the line is written
 
@@ -103,3 +109,16 @@ module _ (line : List ℕ) (told told' : Option (List ℕ)) (faults faults' : �
   line_no_usage s.Truncated w e = absurd w
   line_no_usage s.RequestBound w e = absurd w
   line_no_usage s.NotBuilt w e = absurd w
+
+  pub line_ends : (status : Status) → Writes status line told told' faults faults' → EndsCheck status
+  line_ends s.Ended w = tt
+  line_ends s.WriteFault w = tt
+  line_ends s.NoMemory w = tt
+  line_ends s.Usage w = absurd w
+  line_ends (s.Page fault) w = absurd w
+  line_ends (s.Script index fault) w = absurd w
+  line_ends s.ReadFault w = absurd w
+  line_ends s.ShelfFault w = absurd w
+  line_ends s.Truncated w = absurd w
+  line_ends s.RequestBound w = absurd w
+  line_ends s.NotBuilt w = absurd w

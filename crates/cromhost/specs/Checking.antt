@@ -92,6 +92,17 @@ Checked ReadFault page written = ⊥
 Checked Truncated page written = ⊥
 Checked RequestBound page written = ⊥
 
+-- the statuses that checking a page ends with
+abbrev pub EndsCheck : Status → Type 0
+EndsCheck Ended = ⊤
+EndsCheck (Page (fault.Rule number at)) = ⊤
+EndsCheck (Page fault.NoMemory) = ⊥
+EndsCheck (Script index fault) = ⊤
+EndsCheck ShelfFault = ⊤
+EndsCheck WriteFault = ⊤
+EndsCheck NoMemory = ⊤
+EndsCheck _ = ⊥
+
 -- the run ended with this fault of a script, or before the page was read
 abbrev pub IsScriptRefused : Status → (index : ℕ) → ScriptFault → Type 0
 IsScriptRefused (Script i f) index fault = (i ≡ index) × (f ≡ fault)

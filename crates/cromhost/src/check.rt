@@ -5,7 +5,7 @@ ghost use Rattle.page_reader.specs.Page.{IsPageFault};
 ghost use Rattle.js_parser.specs.declared.fault.ScriptFault.{ScriptFault};
 ghost use Rattle.cromhost.specs.Faults as faults;
 ghost use Rattle.cromhost.specs.Headline.{IsRefused, Causes};
-ghost use Rattle.cromhost.specs.Checking.{IsChecked, IsScriptFault, CountSays, OnlyCount, OnlyRule, OnlyScript, Checked, IsScriptRefused, Writes, count_line};
+ghost use Rattle.cromhost.specs.Checking.{IsChecked, IsScriptFault, CountSays, OnlyCount, OnlyRule, OnlyScript, Checked, IsScriptRefused, EndsCheck, Writes, count_line};
 
 use crate::fault::LoadFault;
 use crate::status::Status;
@@ -18,6 +18,7 @@ use std::alloc::Global;
 /// Reads the page of this name and its scripts, in order, and writes how many scripts it has.
 pub fn check<F: Shelf, W: Sink>(alloc: Global, name: &str, shelf: &mut F, output: &mut W) -> Status
     ensures usage { result ≡ Status.Usage → ⊥ }
+    ensures ends { EndsCheck result }
     ensures causes { (input : ℕ) → Causes result (F.faults shelf.old) (F.faults shelf.new) input input (W.faults output.old) (W.faults output.new) }
     ensures checked { (page old : List ℕ) → F.file shelf.old name.now ≡ Some page → W.told output.old ≡ Some old
         → (written : List ℕ) × (W.told output.new ≡ Some (old ++ written)) × Checked result (take FETCHED_BYTES page) written }

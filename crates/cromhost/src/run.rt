@@ -6,7 +6,7 @@ ghost use Rattle.page_reader.specs.Page.{IsPageFault};
 ghost use Rattle.js_parser.specs.declared.fault.ScriptFault.{ScriptFault};
 ghost use Rattle.cromhost.specs.Words.{stdio_word, check_word, IsUsage, Names};
 ghost use Rattle.cromhost.specs.Headline.{Headline, Causes, IsRefused, IsWhole};
-ghost use Rattle.cromhost.specs.Checking.{IsChecked, IsScriptFault, Checked, IsScriptRefused};
+ghost use Rattle.cromhost.specs.Checking.{IsChecked, IsScriptFault, Checked, IsScriptRefused, EndsCheck};
 
 use crate::check::check;
 use crate::status::Status;
@@ -34,6 +34,8 @@ pub fn run<F: Shelf, S: Source, W: Sink>(
     ensures checked { (name page old : List ℕ) → check_word (map string_bytes words.now.items) ≡ Some name
         → F.file shelf.old name ≡ Some page → W.told output.old ≡ Some old
         → (written : List ℕ) × (W.told output.new ≡ Some (old ++ written)) × Checked result (take FETCHED_BYTES page) written }
+    // Checking ends with no status of serving, so it never is not built.
+    ensures ends { (name : List ℕ) → check_word (map string_bytes words.now.items) ≡ Some name → EndsCheck result }
     // Checking reads nothing of the input.
     ensures unread { (name : List ℕ) → check_word (map string_bytes words.now.items) ≡ Some name → input.new ≡ input.old }
     // A page that breaks a rule is refused with it.

@@ -3,7 +3,7 @@ use Rattle.std.proofs.lemmas.List.{append-nil}
 use Rattle.page_units.specs.declared.shelf.TheConstants.{FETCHED_BYTES}
 use Rattle.page_reader.specs.Page.{IsPageFault}
 use Rattle.cromhost.specs.Checking.{IsChecked, IsScriptFault, CountSays, count_line}
-use Rattle.cromhost.proofs.Checks.{fault_checked, fault_rule, fault_script, fault_complete, line_checked, line_causes, line_complete}
+use Rattle.cromhost.proofs.Checks.{fault_checked, fault_rule, fault_script, fault_complete, fault_ends, line_checked, line_causes, line_complete, line_ends}
 use Rattle.cromhost.proofs.check.check.Goals as goal
 
 -- ---- the scripts are counted
@@ -12,6 +12,11 @@ pub returns-in-Ok-clause-causes : goal.returns-in-Ok-clause-causes
 returns-in-Ok-clause-causes g c input =
     line_causes (count_line c.in-Ok.count) (g.W.Sink.told c.args.output.now) (g.W.Sink.told c.write_count.new.output) (g.W.Sink.faults c.args.output.now) (g.W.Sink.faults c.write_count.new.output)
     c.write_count.result (g.F.Shelf.faults c.args.shelf.now) (g.F.Shelf.faults c.fetch.new.self) input (rw c.in-Ok-Bytes.field-0-is at c.in-Ok-Bytes.ensures.count) c.write_count.ensures
+
+pub returns-in-Ok-clause-ends : goal.returns-in-Ok-clause-ends
+returns-in-Ok-clause-ends g c =
+    line_ends (count_line c.in-Ok.count) (g.W.Sink.told c.args.output.now) (g.W.Sink.told c.write_count.new.output) (g.W.Sink.faults c.args.output.now) (g.W.Sink.faults c.write_count.new.output)
+    c.write_count.result c.write_count.ensures
 
 pub returns-in-Ok-clause-checked : goal.returns-in-Ok-clause-checked
 returns-in-Ok-clause-checked g c page old f o =
@@ -38,6 +43,9 @@ returns-in-Ok-clause-complete g c page f count checked calm_shelf calm_output =
     c.write_count.result c.write_count.ensures calm_output
 
 -- ---- the page or a script is none
+
+pub returns-clause-ends : goal.returns-clause-ends
+returns-clause-ends g c = rw c.status_of.ensures (fault_ends c.in-Err-count_scripts.fault c.as_slice.result.now c.in-Err-count_scripts.ensures.says)
 
 pub returns-clause-checked : goal.returns-clause-checked
 returns-clause-checked g c page old f o =
