@@ -7,14 +7,16 @@ use Rattle.grammar.specs.Reading.{is_some, Eats, Decided}
 use Rattle.grammar.proofs.Words.{turned, barred_decided}
 use Rattle.js_lexer.specs.declared.token.Punct.TheVariants as p
 use Rattle.js_tree.specs.declared.code.FnCode.{FnCode}
-use Rattle.js_parser.specs.declared.fault.Fault.{Fault}
-use Rattle.js_parser.specs.declared.context.Context.{Context}
-use Rattle.js_parser.specs.declared.operand.Operand.{Operand}
-use Rattle.js_parser.specs.Next.{Next, of, shows, is_name, is_left_out_name, is_slash}
-use Rattle.js_parser.specs.Operators.{is_assignment, is_prefix}
-use Rattle.js_parser.specs.Operands.{level_flaw, target_flaw, middle, first_context, binds}
+use Rattle.js_nodes.specs.declared.fault.Fault.{Fault}
+use Rattle.js_nodes.specs.declared.context.Context.{Context}
+use Rattle.js_nodes.specs.declared.operand.Operand.{Operand}
+use Rattle.js_nodes.specs.Next.{Next, of, shows, is_name, is_left_out_name, is_slash}
+use Rattle.js_nodes.specs.Operators.{is_assignment, is_prefix}
+use Rattle.js_nodes.specs.Operands.{level_flaw, target_flaw, middle, first_context, binds}
 use Rattle.js_parser.specs.Levels.{Level}
-use Rattle.js_parser.specs.Expressions.{is_postfix, postfix, prefix_end, flaw_of_prefix, prefix, unary, binds_at, operation, binary, conditional, assign, comma, expr, begins_operand, operand_too_deep, unless_name, lone_name, first}
+use Rattle.js_cursor.specs.Questions.{is_postfix, begins_operand, operand_too_deep, unless_name}
+use Rattle.js_parser.specs.Expressions.{postfix, flaw_of_prefix, prefix, unary, binds_at, operation, binary, conditional, assign, comma, expr, first}
+use Rattle.js_cursor.specs.Rules.{prefix_end, lone_name}
 use Rattle.js_parser.proofs.DecidedWords.{may_takes, sound_decided, takes_decided, deeper_decided, no_sign, sign_decided}
 use Rattle.js_parser.proofs.DecidedKinds.{operand_begins, left_not_prefix}
 use Rattle.js_parser.proofs.DecidedMay.{prefix_may, postfix_may, unary_may, operation_may, comma_may}

@@ -9,17 +9,17 @@ use Rattle.js_lexer.specs.declared.token.Word.TheVariants as w
 use Rattle.js_tree.specs.declared.code.FnCode.{FnCode}
 use Rattle.js_tree.specs.declared.stmt.Stmt.{Stmt}
 use Rattle.js_tree.specs.declared.stmt.Stmt.TheVariants as s
-use Rattle.js_parser.specs.declared.context.Closer.TheVariants as c
-use Rattle.js_parser.specs.declared.context.Closer.{Closer}
-use Rattle.js_parser.specs.declared.context.Inside.{Inside}
-use Rattle.js_parser.specs.declared.depth.Depth.{Depth}
-use Rattle.js_parser.specs.declared.operand.Operand.{Operand}
-use Rattle.js_parser.specs.declared.series.State.{State}
-use Rattle.js_parser.specs.Next.{Next, place, shows, says}
-use Rattle.js_parser.specs.Operands.{nothing, raised, level_flaw, context, first_context, is_bare_name, name_of}
+use Rattle.js_nodes.specs.declared.context.Closer.TheVariants as c
+use Rattle.js_nodes.specs.declared.context.Closer.{Closer}
+use Rattle.js_nodes.specs.declared.context.Inside.{Inside}
+use Rattle.js_nodes.specs.declared.depth.Depth.{Depth}
+use Rattle.js_nodes.specs.declared.operand.Operand.{Operand}
+use Rattle.js_nodes.specs.declared.series.State.{State}
+use Rattle.js_nodes.specs.Next.{Next, place, shows, says}
+use Rattle.js_nodes.specs.Operands.{nothing, raised, level_flaw, context, first_context, is_bare_name, name_of}
 use Rattle.js_parser.specs.Levels.{Level}
-use Rattle.js_parser.specs.Functions.{state}
-use Rattle.js_parser.specs.Statements.{declared, turning}
+use Rattle.js_nodes.specs.Pieces.{state}
+use Rattle.js_nodes.specs.Pieces.{declared, turning}
 use Rattle.js_parser.specs.Heads.{head_part, for_rest, for_each, for_variables, for_expression, for_head, for_statement}
 use Rattle.js_parser.proofs.DecidedWords.{barred_and, no_word, no_sign, may_takes, takes_decided, sign_decided, word_decided, name_decided}
 use Rattle.js_parser.proofs.DecidedKinds.{sign_no_word, var_no_semicolon}

@@ -11,15 +11,15 @@ use Rattle.js_lexer.specs.declared.token.Word.TheVariants as w
 use Rattle.js_lexer.specs.declared.token.Token.{Token}
 use Rattle.js_lexer.specs.Punctuators as puncts
 use Rattle.js_lexer.specs.Words as words
-use Rattle.js_parser.specs.declared.context.Inside.{Inside}
-use Rattle.js_parser.specs.Next.{Next, of, is_there, same_sign, same_word, is_punct, is_word, shows, says, is_left_out, is_left_out_name, is_slash}
-use Rattle.js_parser.specs.Operators.{is_prefix}
-use Rattle.js_parser.specs.Primary.{begins_primary}
-use Rattle.js_parser.specs.Functions.{in_block}
-use Rattle.js_parser.specs.Expressions.{begins_operand}
-use Rattle.js_parser.specs.Statements.{begins_statement, in_case, is_case}
-use Rattle.js_parser.specs.Sources.{requires_part, opens_kind, opens}
-use Rattle.js_parser.proofs.Signs.{sign_spelled, word_spelled}
+use Rattle.js_nodes.specs.declared.context.Inside.{Inside}
+use Rattle.js_nodes.specs.Next.{Next, of, is_there, same_sign, same_word, is_punct, is_word, shows, says, is_left_out, is_left_out_name, is_slash}
+use Rattle.js_nodes.specs.Operators.{is_prefix}
+use Rattle.js_nodes.specs.Classes.{begins_primary}
+use Rattle.js_cursor.specs.Questions.{in_block}
+use Rattle.js_cursor.specs.Questions.{begins_operand}
+use Rattle.js_cursor.specs.Questions.{begins_statement, in_case, is_case}
+use Rattle.js_nodes.specs.Classes.{requires_part, opens_kind, opens}
+use Rattle.js_cursor.proofs.Signs.{sign_spelled, word_spelled}
 
 -- Where the one bars the other, the other bars the one.
 pub contrary : (a b : Bool) → (a ≡ true → b ≡ false) → b ≡ true → a ≡ false

@@ -3,12 +3,12 @@ use Rattle.std.proofs.Common.{◌≡◌, ℕ, Bool, List}
 use Rattle.grammar.specs.Reading.{may, Eats, Decided}
 use Rattle.std.specs.Prelude.{None}
 use Rattle.js_tree.specs.declared.code.FnCode.{FnCode}
-use Rattle.js_parser.specs.declared.context.Context.{Context}
-use Rattle.js_parser.specs.declared.context.Inside.{Inside}
-use Rattle.js_parser.specs.declared.series.State.{State}
-use Rattle.js_parser.specs.declared.series.Body.{Body}
-use Rattle.js_parser.specs.Next.{Next}
-use Rattle.js_parser.specs.Words.{R}
+use Rattle.js_nodes.specs.declared.context.Context.{Context}
+use Rattle.js_nodes.specs.declared.context.Inside.{Inside}
+use Rattle.js_nodes.specs.declared.series.State.{State}
+use Rattle.js_nodes.specs.declared.series.Body.{Body}
+use Rattle.js_nodes.specs.Next.{Next}
+use Rattle.js_cursor.specs.Words.{R}
 use Rattle.js_parser.specs.Levels.{Level}
 use Rattle.js_parser.proofs.DecidedKinds.{operand_begins, statement_begins, source_begins}
 

@@ -6,25 +6,29 @@ use Rattle.js_lexer.specs.declared.token.Kind.{Kind}
 use Rattle.js_lexer.specs.declared.token.Punct.TheVariants as p
 use Rattle.js_lexer.specs.declared.token.Word.TheVariants as w
 use Rattle.js_tree.specs.declared.code.FnCode.{FnCode}
-use Rattle.js_parser.specs.declared.fault.Fault.{Fault}
-use Rattle.js_parser.specs.declared.context.Context.{Context}
-use Rattle.js_parser.specs.declared.context.Inside.{Inside}
-use Rattle.js_parser.specs.declared.operand.Operand.{Operand}
-use Rattle.js_parser.specs.declared.series.State.{State}
-use Rattle.js_parser.specs.declared.series.Body.{Body}
-use Rattle.js_parser.specs.declared.series.Cases.{Cases}
-use Rattle.js_parser.specs.declared.series.Series.{Series}
-use Rattle.js_parser.specs.declared.series.Decls.{Decls}
-use Rattle.js_parser.specs.Next.{Next, of, shows, says, is_left_out_name, is_slash}
-use Rattle.js_parser.specs.Words.{sound, too_deep}
-use Rattle.js_parser.specs.Operators.{is_prefix}
-use Rattle.js_parser.specs.Operands.{level_flaw}
+use Rattle.js_nodes.specs.declared.fault.Fault.{Fault}
+use Rattle.js_nodes.specs.declared.context.Context.{Context}
+use Rattle.js_nodes.specs.declared.context.Inside.{Inside}
+use Rattle.js_nodes.specs.declared.operand.Operand.{Operand}
+use Rattle.js_nodes.specs.declared.series.State.{State}
+use Rattle.js_nodes.specs.declared.series.Body.{Body}
+use Rattle.js_nodes.specs.declared.series.Cases.{Cases}
+use Rattle.js_nodes.specs.declared.series.Series.{Series}
+use Rattle.js_nodes.specs.declared.series.Decls.{Decls}
+use Rattle.js_nodes.specs.Next.{Next, of, shows, says, is_left_out_name, is_slash}
+use Rattle.js_cursor.specs.Words.{sound, too_deep}
+use Rattle.js_nodes.specs.Operators.{is_prefix}
+use Rattle.js_nodes.specs.Operands.{level_flaw}
 use Rattle.js_parser.specs.Levels.{Level}
-use Rattle.js_parser.specs.Primary.{begins_primary, primary_flaw, primary}
+use Rattle.js_nodes.specs.Classes.{begins_primary}
+use Rattle.js_cursor.specs.Questions.{primary_flaw}
+use Rattle.js_parser.specs.Primary.{primary}
 use Rattle.js_parser.specs.Chains.{link, construction, head, left}
 use Rattle.js_parser.specs.Expressions.{prefix, postfix, unary, binds_at, operation, comma}
-use Rattle.js_parser.specs.Statements.{case_part, finally_part, catch_part, decl_more, begins_statement}
-use Rattle.js_parser.specs.Sources.{requires_part, opens, declaration, statement, source}
+use Rattle.js_parser.specs.Statements.{case_part, finally_part, catch_part, decl_more}
+use Rattle.js_cursor.specs.Questions.{begins_statement}
+use Rattle.js_nodes.specs.Classes.{requires_part, opens}
+use Rattle.js_parser.specs.Sources.{declaration, statement, source}
 use Rattle.js_parser.proofs.DecidedWords.{may_sound, may_takes, may_deeper, may_too_deep}
 use Rattle.js_parser.proofs.DecidedKinds.{at_sign, part_opens, primary_begins, left_begins, operand_begins, prefix_or_left, statement_begins, source_begins}
 

@@ -9,18 +9,24 @@ use Rattle.js_lexer.specs.declared.token.Kind.TheVariants as k
 use Rattle.js_lexer.specs.declared.token.Punct.TheVariants as p
 use Rattle.js_lexer.specs.declared.token.Word.TheVariants as w
 use Rattle.js_tree.specs.declared.code.FnCode.{FnCode}
-use Rattle.js_parser.specs.declared.context.Context.{Context}
-use Rattle.js_parser.specs.declared.context.Closer.TheVariants as c
-use Rattle.js_parser.specs.declared.operand.Operand.{Operand}
-use Rattle.js_parser.specs.declared.operand.Row.{Row}
-use Rattle.js_parser.specs.declared.operand.Entries.{Entries}
-use Rattle.js_parser.specs.declared.series.Body.{Body}
-use Rattle.js_parser.specs.Next.{Next, of, shows, says, is_name, is_key}
-use Rattle.js_parser.specs.Operands.{nothing, row, context, level_flaw}
+use Rattle.js_nodes.specs.declared.context.Context.{Context}
+use Rattle.js_nodes.specs.declared.context.Closer.TheVariants as c
+use Rattle.js_nodes.specs.declared.operand.Operand.{Operand}
+use Rattle.js_nodes.specs.declared.operand.Row.{Row}
+use Rattle.js_nodes.specs.declared.operand.Entries.{Entries}
+use Rattle.js_nodes.specs.declared.series.Body.{Body}
+use Rattle.js_nodes.specs.Next.{Next, of, shows, says, is_name, is_key}
+use Rattle.js_nodes.specs.Operands.{nothing, row, context, level_flaw}
 use Rattle.js_parser.specs.Levels.{Level}
-use Rattle.js_parser.specs.Functions.{state, body, called, twice, parameter, more_parameters, some_parameters, parameters, in_block, function_body, function_code}
-use Rattle.js_parser.specs.Primary.{item, list_more, list_items, list, key_flaw, accessor_flaw, entry, object_more, object_entries, object, function, parens, begins_primary, primary_flaw, primary_kind, primary_by, primary}
-use Rattle.js_parser.specs.Chains.{argument_more, some_arguments, arguments, index, is_access, is_link, call, link_kind, link_by, link, construction, head, callee, left}
+use Rattle.js_nodes.specs.Pieces.{state, body, called}
+use Rattle.js_cursor.specs.Questions.{twice, in_block}
+use Rattle.js_cursor.specs.Rules.{parameter, more_parameters, member_name}
+use Rattle.js_parser.specs.Functions.{some_parameters, parameters, function_body, function_code}
+use Rattle.js_parser.specs.Primary.{item, list_more, list_items, list, entry, object_more, object_entries, object, function, parens, primary_kind, primary_by, primary}
+use Rattle.js_cursor.specs.Questions.{key_flaw, accessor_flaw, primary_flaw}
+use Rattle.js_nodes.specs.Classes.{begins_primary}
+use Rattle.js_parser.specs.Chains.{argument_more, some_arguments, arguments, index, call, link_kind, link_by, link, construction, head, callee, left}
+use Rattle.js_nodes.specs.Classes.{is_access, is_link}
 use Rattle.js_parser.proofs.DecidedWords.{sound_decided, takes_decided, deeper_decided, no_sign, no_word, sign_decided, name_decided}
 use Rattle.js_parser.proofs.DecidedKinds.{left_begins, primary_not_new, source_in_block, no_block}
 use Rattle.js_parser.proofs.DecidedMay.{primary_may, link_may, construction_may, head_may}
@@ -171,7 +177,8 @@ module _ (below : Level) (known : Known below) where
   call_decided x = (arguments_decided x.codes, λ r. tt)
 
   link_kind_decided : (x : Operand) (kind : Kind) → Decided None (link_kind below x kind)
-  link_kind_decided x (k.Punct p.Dot) = (refl, λ _. tt)
+  unfolding member_name
+  link_kind_decided x (k.Punct p.Dot) = ((refl, λ _. tt), λ _. tt)
   link_kind_decided x (k.Punct p.LeftBracket) = index_decided x
   link_kind_decided x _ = call_decided x
 

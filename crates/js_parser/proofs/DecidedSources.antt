@@ -8,17 +8,20 @@ use Rattle.js_lexer.specs.declared.token.Kind.TheVariants as k
 use Rattle.js_lexer.specs.declared.token.Punct.TheVariants as p
 use Rattle.js_lexer.specs.declared.token.Word.TheVariants as w
 use Rattle.js_tree.specs.declared.stmt.Stmt.TheVariants as s
-use Rattle.js_parser.specs.declared.fault.Fault.{Fault}
-use Rattle.js_parser.specs.declared.context.Inside.{Inside}
-use Rattle.js_parser.specs.declared.series.State.{State}
-use Rattle.js_parser.specs.declared.series.Body.{Body}
-use Rattle.js_parser.specs.Next.{Next, of, is_there, says, is_left_out_name, is_slash}
-use Rattle.js_parser.specs.Words.{too_deep}
+use Rattle.js_nodes.specs.declared.fault.Fault.{Fault}
+use Rattle.js_nodes.specs.declared.context.Inside.{Inside}
+use Rattle.js_nodes.specs.declared.series.State.{State}
+use Rattle.js_nodes.specs.declared.series.Body.{Body}
+use Rattle.js_nodes.specs.Next.{Next, of, is_there, says, is_left_out_name, is_slash}
+use Rattle.js_cursor.specs.Words.{too_deep}
 use Rattle.js_parser.specs.Levels.{Level}
-use Rattle.js_parser.specs.Operands.{nothing}
-use Rattle.js_parser.specs.Functions.{state, body}
-use Rattle.js_parser.specs.Statements.{begins_statement}
-use Rattle.js_parser.specs.Sources.{opens, requires_part, statement_kind, statement_by, statement, declaration, source, statement_too_deep, source_too_deep, no_level, next_level, level, outside, program}
+use Rattle.js_nodes.specs.Operands.{nothing}
+use Rattle.js_nodes.specs.Pieces.{state, body}
+use Rattle.js_cursor.specs.Questions.{begins_statement}
+use Rattle.js_nodes.specs.Classes.{opens, requires_part}
+use Rattle.js_parser.specs.Sources.{statement_kind, statement_by, statement, declaration, source, no_level, next_level, level, program}
+use Rattle.js_cursor.specs.Questions.{statement_too_deep, source_too_deep}
+use Rattle.js_nodes.specs.Pieces.{outside}
 use Rattle.js_parser.proofs.DecidedWords.{sound_decided, no_word, name_decided}
 use Rattle.js_parser.proofs.DecidedKinds.{statement_begins, source_begins, other_not_opening, left_out_begins, statement_no_function, source_there}
 use Rattle.js_parser.proofs.DecidedMay.{opening_may, statement_may, source_may}
@@ -77,15 +80,15 @@ module _ (below : Level) (known : Known below) where
   unfolding statement_kind
   kind_decided room inside added t (k.Punct p.LeftBrace) = block_statement_decided below known inside added t
   kind_decided room inside added t (k.Punct p.Semicolon) = tt
-  kind_decided room inside added t (k.Word w.Var) = var_decided below known room added t
+  kind_decided room inside added t (k.Word w.Var) = var_decided below known room inside added t
   kind_decided room inside added t (k.Word w.If) = if_decided below known inside added t
   kind_decided room inside added t (k.Word w.Do) = do_decided below known inside added t
   kind_decided room inside added t (k.Word w.While) = while_decided below known inside added t
   kind_decided room inside added t (k.Word w.For) = for_decided below known room inside added t
   kind_decided room inside added t (k.Word w.Continue) = jump_decided s.Continue added t
   kind_decided room inside added t (k.Word w.Break) = jump_decided s.Break added t
-  kind_decided room inside added t (k.Word w.Return) = return_decided below known added t
-  kind_decided room inside added t (k.Word w.Throw) = throw_decided below known added t
+  kind_decided room inside added t (k.Word w.Return) = return_decided below known inside added t
+  kind_decided room inside added t (k.Word w.Throw) = throw_decided below known inside added t
   kind_decided room inside added t (k.Word w.Switch) = switch_decided below known inside added t
   kind_decided room inside added t (k.Word w.Try) = try_decided below known inside added t
   kind_decided room inside added t _ = tt
@@ -100,9 +103,9 @@ module _ (below : Level) (known : Known below) where
     decided = (
       λ t h. opening_may room inside t ∙ other_not_opening inside t h,
       (sound_decided (too_deep room (of requires_part)) (opens inside) (no_opening inside), by_decided room inside added),
-      (tt, λ _. expression_decided below known added),
+      (tt, λ _. expression_decided below known inside added),
     );
-    eats = (inl (tt, tt), inr (λ _. expression_eats below known added));
+    eats = (inl (tt, tt), inr (λ _. expression_eats below known inside added));
     begin = statement_may below room inside added;
   }
 

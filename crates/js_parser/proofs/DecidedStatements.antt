@@ -9,18 +9,22 @@ use Rattle.js_lexer.specs.declared.token.Word.TheVariants as w
 use Rattle.js_tree.specs.declared.code.FnCode.{FnCode}
 use Rattle.js_tree.specs.declared.expr.Expr.{Expr}
 use Rattle.js_tree.specs.declared.stmt.Stmt.{Stmt}
-use Rattle.js_parser.specs.declared.context.Closer.TheVariants as c
-use Rattle.js_parser.specs.declared.context.Context.{Context}
-use Rattle.js_parser.specs.declared.context.Inside.{Inside}
-use Rattle.js_parser.specs.declared.series.State.{State}
-use Rattle.js_parser.specs.declared.series.Series.{Series}
-use Rattle.js_parser.specs.declared.series.Decls.{Decls}
-use Rattle.js_parser.specs.declared.series.Cases.{Cases}
-use Rattle.js_parser.specs.Next.{Next, shows, says}
-use Rattle.js_parser.specs.Operands.{nothing, both, context, ends}
+use Rattle.js_nodes.specs.declared.context.Closer.TheVariants as c
+use Rattle.js_nodes.specs.declared.context.Context.{Context}
+use Rattle.js_nodes.specs.declared.context.Inside.{Inside}
+use Rattle.js_nodes.specs.declared.series.State.{State}
+use Rattle.js_nodes.specs.declared.series.Series.{Series}
+use Rattle.js_nodes.specs.declared.series.Decls.{Decls}
+use Rattle.js_nodes.specs.declared.series.Cases.{Cases}
+use Rattle.js_nodes.specs.Next.{Next, shows, says}
+use Rattle.js_nodes.specs.Operands.{nothing, both, context, ends}
 use Rattle.js_parser.specs.Levels.{Level}
-use Rattle.js_parser.specs.Functions.{state, in_block}
-use Rattle.js_parser.specs.Statements.{series, cases, decls, semi, turning, choosing, series_more, statements, block, braced, block_statement, initial, decl_more, variables, var_statement, condition, if_statement, do_statement, while_statement, jump, return_statement, throw_statement, in_case, case_body, case_part, is_case, switch_statement, finally_part, catch_part, try_statement, expression_statement}
+use Rattle.js_nodes.specs.Pieces.{state}
+use Rattle.js_cursor.specs.Questions.{in_block}
+use Rattle.js_nodes.specs.Pieces.{series, cases, decls, braces, before_else, turning, doing, choosing}
+use Rattle.js_cursor.specs.Rules.{semi, jump}
+use Rattle.js_parser.specs.Statements.{series_more, statements, block, braced, block_statement, initial, decl_more, variables, var_statement, condition, if_statement, do_statement, while_statement, return_statement, throw_statement, case_body, case_part, switch_cases, switch_statement, finally_part, catch_part, try_statement, expression_statement}
+use Rattle.js_cursor.specs.Questions.{in_case, is_case}
 use Rattle.js_parser.proofs.DecidedWords.{first_true, barred_and, may_deeper, deeper_decided, no_sign, no_word, sign_decided, word_decided, name_decided}
 use Rattle.js_parser.proofs.DecidedKinds.{statement_in_block, statement_in_case, no_block, no_case, no_part, finally_no_catch, default_no_case}
 use Rattle.js_parser.proofs.DecidedMay.{case_may, catch_may, finally_may}
@@ -62,7 +66,7 @@ module _ (below : Level) (known : Known below) where
 
   block_decided : (inside : Inside) (added : State) → Decided None (block inside below added)
   unfolding statements
-  block_decided inside added = (block_turns inside (series [] added nothing), λ y. (sign_decided p.RightBrace, λ _. tt))
+  block_decided inside added = (block_turns (braces inside) (series [] added nothing), λ y. (sign_decided p.RightBrace, λ _. tt))
 
   braced_decided : (inside : Inside) (added : State) → Decided None (braced inside below added)
   braced_decided inside added = (sign_decided p.LeftBrace, λ _. block_decided inside added)
@@ -96,9 +100,9 @@ module _ (below : Level) (known : Known below) where
   unfolding variables
   variables_decided room x at n added = (initial_decided room x n (decls [] added nothing), λ d. (decl_turns room x d, λ d. tt))
 
-  pub var_decided : (room : ℕ) (added : State) (t : Next) → Decided None (var_statement room below added t)
+  pub var_decided : (room : ℕ) (inside : Inside) (added : State) (t : Next) → Decided None (var_statement room below inside added t)
   unfolding var_statement
-  var_decided room added t = (name_decided, λ n. (variables_decided room (context c.Statement) _ n added, λ v. (semi_decided, λ _. tt)))
+  var_decided room inside added t = (name_decided, λ n. (variables_decided room (context (c.Statement inside.after)) _ n added, λ v. (semi_decided, λ _. tt)))
 
   -- ---- `if`, `do` and `while`
 
@@ -110,7 +114,7 @@ module _ (below : Level) (known : Known below) where
   if_decided inside added t = (
     condition_decided added.codes,
     λ x. (
-      (known.statement inside (state x.codes added.vars)).decided,
+      (known.statement (before_else inside) (state x.codes added.vars)).decided,
       λ y. (
         λ u h. turned (says w.Else u) h,
         (word_decided w.Else, λ _. ((known.statement inside y.state).decided, λ z. tt)),
@@ -122,7 +126,7 @@ module _ (below : Level) (known : Known below) where
   pub do_decided : (inside : Inside) (added : State) (t : Next) → Decided None (do_statement below inside added t)
   unfolding do_statement
   do_decided inside added t = (
-    (known.statement (turning inside) added).decided,
+    (known.statement (doing inside) added).decided,
     λ y. (word_decided w.While, λ _. (condition_decided y.state.codes, λ x. (semi_decided, λ _. tt))),
   )
 
@@ -132,17 +136,17 @@ module _ (below : Level) (known : Known below) where
 
   -- ---- `return` and `throw`
 
-  pub return_decided : (added : State) (t : Next) → Decided None (return_statement below added t)
+  pub return_decided : (inside : Inside) (added : State) (t : Next) → Decided None (return_statement below inside added t)
   unfolding return_statement
-  return_decided added t = (
+  return_decided inside added t = (
     λ u h. turned (ends u) h,
     (semi_decided, λ _. tt),
-    (tt, λ _. ((known.expr (context c.Statement) added.codes).decided, λ x. (semi_decided, λ _. tt))),
+    (tt, λ _. ((known.expr (context (c.Statement inside.after)) added.codes).decided, λ x. (semi_decided, λ _. tt))),
   )
 
-  pub throw_decided : (added : State) (t : Next) → Decided None (throw_statement below added t)
+  pub throw_decided : (inside : Inside) (added : State) (t : Next) → Decided None (throw_statement below inside added t)
   unfolding throw_statement
-  throw_decided added t = (barred_decided None _, λ _. (tt, λ _. ((known.expr (context c.Statement) added.codes).decided, λ x. (semi_decided, λ _. tt))))
+  throw_decided inside added t = (barred_decided None _, λ _. (tt, λ _. ((known.expr (context (c.Statement inside.after)) added.codes).decided, λ x. (semi_decided, λ _. tt))))
 
   -- ---- `switch`
 
@@ -174,7 +178,7 @@ module _ (below : Level) (known : Known below) where
   )
 
   pub switch_decided : (inside : Inside) (added : State) (t : Next) → Decided None (switch_statement below inside added t)
-  unfolding switch_statement
+  unfolding switch_statement switch_cases
   switch_decided inside added t = (
     condition_decided added.codes,
     λ x. (sign_decided p.LeftBrace, λ _. (switch_turns inside (cases [] (state x.codes added.vars) false nothing), λ y. (sign_decided p.RightBrace, λ _. tt))),
@@ -222,10 +226,10 @@ module _ (below : Level) (known : Known below) where
 
   -- ---- expression statements
 
-  pub expression_decided : (added : State) → Decided None (expression_statement below added)
+  pub expression_decided : (inside : Inside) (added : State) → Decided None (expression_statement below inside added)
   unfolding expression_statement
-  expression_decided added = ((known.expr (context c.Statement) added.codes).decided, λ x. (barred_decided None _, λ _. (semi_decided, λ _. tt)))
+  expression_decided inside added = ((known.expr (context (c.Statement inside.after)) added.codes).decided, λ x. (barred_decided None _, λ _. (semi_decided, λ _. tt)))
 
-  pub expression_eats : (added : State) → Eats (expression_statement below added)
+  pub expression_eats : (inside : Inside) (added : State) → Eats (expression_statement below inside added)
   unfolding expression_statement
-  expression_eats added = inl (known.expr (context c.Statement) added.codes).eats
+  expression_eats inside added = inl (known.expr (context (c.Statement inside.after)) added.codes).eats

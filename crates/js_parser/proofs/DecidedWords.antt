@@ -7,9 +7,9 @@ use Rattle.js_lexer.specs.declared.token.Kind.{Kind}
 use Rattle.js_lexer.specs.declared.token.Kind.TheVariants as k
 use Rattle.js_lexer.specs.declared.token.Punct.{Punct}
 use Rattle.js_lexer.specs.declared.token.Word.{Word}
-use Rattle.js_parser.specs.declared.fault.Fault.{Fault}
-use Rattle.js_parser.specs.Next.{Next, of, shows, says, is_identifier, is_name, is_left_out_name}
-use Rattle.js_parser.specs.Words.{sound, where_of, takes, too_deep, deeper, sign, word, name, left_out}
+use Rattle.js_nodes.specs.declared.fault.Fault.{Fault}
+use Rattle.js_nodes.specs.Next.{Next, of, shows, says, is_identifier, is_name, is_left_out_name}
+use Rattle.js_cursor.specs.Words.{sound, where_of, takes, too_deep, deeper, sign, word, name, left_out}
 
 -- ---- tests
 

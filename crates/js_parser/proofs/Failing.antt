@@ -4,12 +4,12 @@ use Rattle.std.specs.Result.{IsErr, IsErrAnd}
 use Rattle.grammar.specs.Grammar.{again, first}
 use Rattle.grammar.specs.Reading.{Outcome, Got, Bad, and_then, Decided, read}
 use Rattle.grammar.proofs.Reader.{again_fails, again_stops}
-use Rattle.js_parser.specs.declared.fault.Fault.{Fault}
-use Rattle.js_parser.specs.declared.fault.ParseError.{ParseError}
-use Rattle.js_parser.specs.declared.fault.ParseError.TheVariants as errors
-use Rattle.js_parser.specs.Next.{Next}
-use Rattle.js_parser.specs.Words.{R}
-use Rattle.js_parser.specs.Reads.{Reads}
+use Rattle.js_nodes.specs.declared.fault.Fault.{Fault}
+use Rattle.js_nodes.specs.declared.fault.ParseError.{ParseError}
+use Rattle.js_nodes.specs.declared.fault.ParseError.TheVariants as errors
+use Rattle.js_nodes.specs.Next.{Next}
+use Rattle.js_cursor.specs.Words.{R}
+use Rattle.js_cursor.specs.Reads.{Reads}
 
 abbrev pub failed : {A : Type 0} → ParseError → Result A ParseError
 failed e = Err e

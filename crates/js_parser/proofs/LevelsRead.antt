@@ -1,25 +1,29 @@
 -- What the rules of a level are.
 use Rattle.std.proofs.Common.{◌≡◌, Bool, false, ℕ, zero, suc, ◌-◌, ◌<◌, List, Some, None, refl, sym, ap, subst, ◌∙◌, Result, Err, arith}
 use Rattle.grammar.specs.Reading.{Outcome, Got, Bad, and_then, read}
-use Rattle.js_parser.specs.declared.fault.Fault.{Fault}
-use Rattle.js_parser.specs.declared.fault.ParseError.{ParseError}
+use Rattle.js_nodes.specs.declared.fault.Fault.{Fault}
+use Rattle.js_nodes.specs.declared.fault.ParseError.{ParseError}
 use Rattle.std.specs.Prelude.{Option}
 use Rattle.std.proofs.Math.Dec.{eqb-zero-suc}
 use Rattle.grammar.specs.Grammar.{again, first}
 use Rattle.js_tree.specs.declared.code.FnCode.{FnCode}
-use Rattle.js_parser.specs.declared.context.Context.{Context}
-use Rattle.js_parser.specs.declared.context.Inside.{Inside}
-use Rattle.js_parser.specs.declared.operand.Operand.{Operand}
-use Rattle.js_parser.specs.declared.series.State.{State}
-use Rattle.js_parser.specs.Operands.{binds}
-use Rattle.js_parser.specs.Operators.{is_prefix}
+use Rattle.js_nodes.specs.declared.context.Context.{Context}
+use Rattle.js_nodes.specs.declared.context.Inside.{Inside}
+use Rattle.js_nodes.specs.declared.operand.Operand.{Operand}
+use Rattle.js_nodes.specs.declared.series.State.{State}
+use Rattle.js_nodes.specs.Operands.{binds}
+use Rattle.js_nodes.specs.Operators.{is_prefix}
 use Rattle.js_parser.specs.Primary.{primary}
-use Rattle.js_parser.specs.Next.{Next, of, is_name, shows, says}
-use Rattle.js_parser.specs.Words.{sound}
-use Rattle.js_parser.specs.Expressions.{operand_too_deep, unless_name, lone_name, unary, binary, binds_at, operation}
+use Rattle.js_nodes.specs.Next.{Next, of, is_name, shows, says}
+use Rattle.js_cursor.specs.Words.{sound}
+use Rattle.js_cursor.specs.Questions.{operand_too_deep, unless_name}
+use Rattle.js_cursor.specs.Rules.{lone_name}
+use Rattle.js_parser.specs.Expressions.{unary, binary, binds_at, operation}
 use Rattle.js_parser.specs.Levels.{Level}
-use Rattle.js_parser.specs.Sources.{level, no_level, next_level, opens, statement}
-use Rattle.js_parser.specs.Reads.{Reads, Unfits}
+use Rattle.js_parser.specs.Sources.{level, no_level, next_level, statement}
+use Rattle.js_nodes.specs.Classes.{opens}
+use Rattle.js_cursor.specs.Reads.{Reads, Unfits}
+use Rattle.js_cursor.proofs.Refused.{bad_reads}
 
 -- Where a level is left, its rules stand on those of the next.
 pub level_some : (room : ℕ) → 0 < room → level room ≡ next_level room (level (room - 1))
@@ -37,10 +41,6 @@ some_reads {A} field room res new h k = subst (λ (l : Level). Reads (field l) r
 
 failed : {A : Type 0} → ParseError → Result A ParseError
 failed e = Err e
-
-pub bad_reads : {A : Type 0} (w : Option Fault) (ts : List Next) (e : ParseError) (o : Outcome Next Fault A) → o ≡ Bad w ts → Unfits w e → Reads o (Err e) ts
-bad_reads None ts e o q h = rw h q
-bad_reads (Some f) ts e o q h = rw h q
 
 -- Where none is left, it is refused so.
 pub none_reads : {A : Type 0} (field : Level → Outcome Next Fault A) (room : ℕ) (w : Option Fault) (ts : List Next) (e : ParseError) → room ≡ 0 → field no_level ≡ Bad w ts → Unfits w e → Reads (field (level room)) (Err e) ts

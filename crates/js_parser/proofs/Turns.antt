@@ -8,27 +8,31 @@ use Rattle.grammar.specs.Reading.{Outcome, Got, read}
 use Rattle.grammar.proofs.Words.{turn}
 use Rattle.js_lexer.specs.declared.token.Kind.{Kind}
 use Rattle.js_lexer.specs.declared.token.Punct.TheVariants as p
-use Rattle.js_parser.specs.declared.context.Context.{Context}
-use Rattle.js_parser.specs.declared.context.Inside.{Inside}
-use Rattle.js_parser.specs.declared.fault.Fault.{Fault}
-use Rattle.js_parser.specs.declared.fault.ParseError.{ParseError}
-use Rattle.js_parser.specs.Reads.{Reads}
+use Rattle.js_nodes.specs.declared.context.Context.{Context}
+use Rattle.js_nodes.specs.declared.context.Inside.{Inside}
+use Rattle.js_nodes.specs.declared.fault.Fault.{Fault}
+use Rattle.js_nodes.specs.declared.fault.ParseError.{ParseError}
+use Rattle.js_cursor.specs.Reads.{Reads}
 use Rattle.js_parser.proofs.Failing.{failed, last_failed}
-use Rattle.js_parser.specs.declared.operand.Operand.{Operand}
-use Rattle.js_parser.specs.declared.operand.Row.{Row}
-use Rattle.js_parser.specs.declared.operand.Entries.{Entries}
-use Rattle.js_parser.specs.declared.series.Series.{Series}
-use Rattle.js_parser.specs.declared.series.Decls.{Decls}
-use Rattle.js_parser.specs.declared.series.Cases.{Cases}
-use Rattle.js_parser.specs.declared.series.Body.{Body}
-use Rattle.js_parser.specs.Next.{Next, of, shows, is_there}
-use Rattle.js_parser.specs.Operands.{binds}
-use Rattle.js_parser.specs.Functions.{more_parameters, in_block, called}
+use Rattle.js_nodes.specs.declared.operand.Operand.{Operand}
+use Rattle.js_nodes.specs.declared.operand.Row.{Row}
+use Rattle.js_nodes.specs.declared.operand.Entries.{Entries}
+use Rattle.js_nodes.specs.declared.series.Series.{Series}
+use Rattle.js_nodes.specs.declared.series.Decls.{Decls}
+use Rattle.js_nodes.specs.declared.series.Cases.{Cases}
+use Rattle.js_nodes.specs.declared.series.Body.{Body}
+use Rattle.js_nodes.specs.Next.{Next, of, shows, is_there}
+use Rattle.js_nodes.specs.Operands.{binds}
+use Rattle.js_cursor.specs.Rules.{more_parameters}
+use Rattle.js_cursor.specs.Questions.{in_block}
+use Rattle.js_nodes.specs.Pieces.{called}
 use Rattle.js_parser.specs.Primary.{list_more, object_more}
 use Rattle.js_parser.specs.Chains.{argument_more, link}
 use Rattle.js_parser.specs.Expressions.{binds_at, operation, comma}
-use Rattle.js_parser.specs.Statements.{series_more, decl_more, in_case, is_case, case_part}
-use Rattle.js_parser.specs.Sources.{level, outside}
+use Rattle.js_parser.specs.Statements.{series_more, decl_more, case_part}
+use Rattle.js_cursor.specs.Questions.{in_case, is_case}
+use Rattle.js_parser.specs.Sources.{level}
+use Rattle.js_nodes.specs.Pieces.{outside}
 use Rattle.js_parser.proofs.DecidedOperands.{parameter_turns, source_turns, list_turns, object_turns, argument_turns, link_turns}
 use Rattle.js_parser.proofs.DecidedExpressions.{operation_turns, comma_turns}
 use Rattle.js_parser.proofs.DecidedStatements.{block_turns, case_turns, decl_turns, switch_turns}

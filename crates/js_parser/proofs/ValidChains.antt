@@ -11,13 +11,15 @@ use Rattle.js_tree.specs.declared.code.FnCode.{FnCode}
 use Rattle.js_tree.specs.declared.expr.Expr.{Expr, out-Expr}
 use Rattle.js_tree.specs.declared.expr.Expr.TheVariants as e
 use Rattle.js_tree.specs.Valid.{ExprNode, ValidExpr}
-use Rattle.js_parser.specs.declared.context.Closer.TheVariants as c
-use Rattle.js_parser.specs.declared.operand.Operand.{Operand}
-use Rattle.js_parser.specs.declared.operand.Row.{Row}
-use Rattle.js_parser.specs.Next.{Next, of, place, shows, text}
-use Rattle.js_parser.specs.Operands.{nothing, both, raised, operand, over, above, row, row_more, context, level_flaw}
+use Rattle.js_nodes.specs.declared.context.Closer.TheVariants as c
+use Rattle.js_nodes.specs.declared.operand.Operand.{Operand}
+use Rattle.js_nodes.specs.declared.operand.Row.{Row}
+use Rattle.js_nodes.specs.Next.{Next, of, place, shows, text}
+use Rattle.js_cursor.specs.Rules.{member_name}
+use Rattle.js_nodes.specs.Operands.{nothing, both, raised, operand, over, above, row, row_more, context, level_flaw}
 use Rattle.js_parser.specs.Levels.{Level}
-use Rattle.js_parser.specs.Chains.{argument_more, some_arguments, arguments, index, is_access, is_link, call, link_kind, link_by, link, construction, callee, left}
+use Rattle.js_parser.specs.Chains.{argument_more, some_arguments, arguments, index, call, link_kind, link_by, link, construction, callee, left}
+use Rattle.js_nodes.specs.Classes.{is_access, is_link}
 use Rattle.js_parser.proofs.ValidCodes.{Ready, adds_none, adds_both}
 use Rattle.js_parser.proofs.ValidFits.{Fine, Has, use_of, no_flaw, level_left, left_height, right_height, both_height, FitsExpr, wider, node_fits, FitsRow, no_row, values_more, row_fits}
 use Rattle.js_parser.proofs.ValidLevels.{Valid}
@@ -72,6 +74,7 @@ module _ (room : ℕ) (below : Level) (known : Valid room below) where
   }
 
   link_kind_fits : (cs : List FnCode) (x : Operand) (kind : Kind) → FitsExpr (suc room) cs x → x.depth.height < suc room → Has (link_kind below x kind) (FitsExpr (suc room) cs)
+  unfolding member_name
   link_kind_fits cs x (k.Punct p.Dot) f l = record { at = λ t. λ _ _ _. over_fits room cs (e.Member x.value (text t)) x f l (rw (e.outs-Member x.value (text t)) f.valid) }
   link_kind_fits cs x (k.Punct p.LeftBracket) f l = index_fits cs x f l
   link_kind_fits cs x _ f l = call_fits cs x f l

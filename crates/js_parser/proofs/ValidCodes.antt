@@ -7,7 +7,7 @@ use Rattle.std.proofs.Math.Seq.{set-append_seam}
 use Rattle.grammar.proofs.Giving.{all_front, all_behind}
 use Rattle.js_tree.specs.declared.code.FnCode.{FnCode}
 use Rattle.js_tree.specs.Valid.{is_there, in_function, ValidStmt, IsNamed, ValidCode}
-use Rattle.js_parser.specs.Functions.{blank}
+use Rattle.js_nodes.specs.Pieces.{blank}
 use Rattle.js_parser.proofs.ValidMore.{stmt_more}
 
 -- Each code is valid where there are these.

@@ -12,14 +12,16 @@ use Rattle.js_tree.specs.declared.expr.Expr.{Expr, out-Expr}
 use Rattle.js_tree.specs.declared.expr.Expr.TheVariants as e
 use Rattle.js_tree.specs.Shapes.{is_name, is_target}
 use Rattle.js_tree.specs.Valid.{assigns, Deletes, ExprNode}
-use Rattle.js_parser.specs.declared.fault.Fault.{Fault}
-use Rattle.js_parser.specs.declared.context.Context.{Context}
-use Rattle.js_parser.specs.declared.operand.Operand.{Operand}
-use Rattle.js_parser.specs.Next.{Next, of, shows, text}
-use Rattle.js_parser.specs.Operators.{is_assignment, is_step, is_delete, step_op, unary_op, binary_op, assignment_op, joined, assigned}
-use Rattle.js_parser.specs.Operands.{both, raised, operand, level_flaw, target_flaw, first_context, middle}
+use Rattle.js_nodes.specs.declared.fault.Fault.{Fault}
+use Rattle.js_nodes.specs.declared.context.Context.{Context}
+use Rattle.js_nodes.specs.declared.operand.Operand.{Operand}
+use Rattle.js_nodes.specs.Next.{Next, of, shows, text}
+use Rattle.js_nodes.specs.Operators.{is_assignment, is_step, is_delete, step_op, unary_op, binary_op, assignment_op, joined, assigned}
+use Rattle.js_nodes.specs.Operands.{both, raised, operand, level_flaw, target_flaw, first_context, middle}
 use Rattle.js_parser.specs.Levels.{Level}
-use Rattle.js_parser.specs.Expressions.{is_postfix, stepped, stepped_or_not, postfix, prefixed, prefix_end, flaw_of_prefix, prefix, unary, binds_at, joined_by, operation, binary, chosen, conditional, assigned_by, assigned_or_not, assign, comma, expr, lone_name, first}
+use Rattle.js_cursor.specs.Questions.{is_postfix}
+use Rattle.js_cursor.specs.Rules.{stepped, stepped_or_not, prefixed, prefix_end, lone_name}
+use Rattle.js_parser.specs.Expressions.{postfix, flaw_of_prefix, prefix, unary, binds_at, joined_by, operation, binary, chosen, conditional, assigned_by, assigned_or_not, assign, comma, expr, first}
 use Rattle.js_parser.proofs.ValidCodes.{Ready, adds_none, adds_both}
 use Rattle.js_parser.proofs.ValidFits.{Fine, Has, use_of, no_flaw, level_left, target_left, left_height, right_height, both_height, FitsExpr, wider, node_fits, roomier}
 use Rattle.js_parser.proofs.ValidLevels.{Valid}
@@ -41,6 +43,7 @@ deletes _ x h = tt
 
 -- An operator between two valid operands makes a valid node.
 joined_node : (kind : Kind) (x y : Expr) (n : ℕ) (V : Expr → Type 0) → V x → V y → ExprNode n V (out-Expr (joined kind x y))
+unfolding joined
 joined_node (k.Punct p.And) x y n V a b = rw (e.outs-And x y) (a, b)
 joined_node (k.Punct p.Or) x y n V a b = rw (e.outs-Or x y) (a, b)
 joined_node kind x y n V a b = rw (e.outs-Binary (binary_op kind) x y) (a, b)
@@ -62,6 +65,7 @@ does_assign _ = refl
 
 -- An assignment to a target makes a valid node.
 assigned_node : (kind : Kind) (x y : Expr) (n : ℕ) (V : Expr → Type 0) → is_target x ≡ true → V x → V y → ExprNode n V (out-Expr (assigned kind x y))
+unfolding assigned
 assigned_node (k.Punct p.Assign) x y n V t a b = rw (e.outs-Assign x y) (t, a, b)
 assigned_node kind x y n V t a b = rw (e.outs-AssignOp (assignment_op kind) x y) (does_assign kind, t, a, b)
 

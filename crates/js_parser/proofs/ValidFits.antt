@@ -11,13 +11,13 @@ use Rattle.js_tree.specs.declared.code.FnCode.{FnCode}
 use Rattle.js_tree.specs.declared.expr.Expr.{Expr, out-Expr}
 use Rattle.js_tree.specs.Shapes.{is_target}
 use Rattle.js_tree.specs.Valid.{ExprNode, ValidExpr}
-use Rattle.js_parser.specs.declared.fault.Fault.{Fault}
-use Rattle.js_parser.specs.declared.depth.Depth.{Depth}
-use Rattle.js_parser.specs.declared.operand.Operand.{Operand}
-use Rattle.js_parser.specs.declared.operand.Row.{Row}
-use Rattle.js_parser.specs.Next.{Next}
-use Rattle.js_parser.specs.Words.{R}
-use Rattle.js_parser.specs.Operands.{nothing, both, raised, operand, level_flaw, target_flaw, row, row_more}
+use Rattle.js_nodes.specs.declared.fault.Fault.{Fault}
+use Rattle.js_nodes.specs.declared.depth.Depth.{Depth}
+use Rattle.js_nodes.specs.declared.operand.Operand.{Operand}
+use Rattle.js_nodes.specs.declared.operand.Row.{Row}
+use Rattle.js_nodes.specs.Next.{Next}
+use Rattle.js_cursor.specs.Words.{R}
+use Rattle.js_nodes.specs.Operands.{nothing, both, raised, operand, level_flaw, target_flaw, row, row_more}
 use Rattle.js_parser.proofs.ValidMore.{expr_more, expr_node}
 use Rattle.js_parser.proofs.ValidCodes.{Ready, Adds, adds_length, adds_none, adds_both}
 

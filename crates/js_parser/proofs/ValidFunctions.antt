@@ -7,13 +7,16 @@ use Rattle.grammar.proofs.Giving.{kept}
 use Rattle.js_lexer.specs.declared.token.Punct.TheVariants as p
 use Rattle.js_tree.specs.declared.code.FnCode.{FnCode}
 use Rattle.js_tree.specs.Valid.{AreDistinct, is_there, in_function, IsNamed, ValidCode}
-use Rattle.js_parser.specs.declared.fault.Fault.{Fault}
-use Rattle.js_parser.specs.declared.operand.Coded.{Coded}
-use Rattle.js_parser.specs.declared.series.Body.{Body}
-use Rattle.js_parser.specs.Next.{Next, of, shows, is_name, is_left_out_name, text}
-use Rattle.js_parser.specs.Operands.{nothing}
+use Rattle.js_nodes.specs.declared.fault.Fault.{Fault}
+use Rattle.js_nodes.specs.declared.operand.Coded.{Coded}
+use Rattle.js_nodes.specs.declared.series.Body.{Body}
+use Rattle.js_nodes.specs.Next.{Next, of, shows, is_name, is_left_out_name, text}
+use Rattle.js_nodes.specs.Operands.{nothing}
 use Rattle.js_parser.specs.Levels.{Level}
-use Rattle.js_parser.specs.Functions.{blank, code, has, state, body, called, twice, more_parameters, some_parameters, parameters, in_block, function_body, function_code}
+use Rattle.js_nodes.specs.Pieces.{blank, has, state, body, called}
+use Rattle.js_parser.specs.Functions.{code, some_parameters, parameters, function_body, function_code}
+use Rattle.js_cursor.specs.Questions.{twice, in_block}
+use Rattle.js_cursor.specs.Rules.{more_parameters}
 use Rattle.js_parser.proofs.ValidCodes.{Ready, Adds, held, filled}
 use Rattle.js_parser.proofs.ValidFits.{Fine, Has, use_of, let_through}
 use Rattle.js_parser.proofs.ValidLevels.{FitsBody, Valid, no_body, stmts_more}

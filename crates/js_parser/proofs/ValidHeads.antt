@@ -6,18 +6,18 @@ use Rattle.js_tree.specs.declared.code.FnCode.{FnCode}
 use Rattle.js_tree.specs.declared.stmt.Stmt.{Stmt, out-Stmt}
 use Rattle.js_tree.specs.declared.stmt.Stmt.TheVariants as s
 use Rattle.js_tree.specs.Valid.{AreDistinct, IfThere, ValidExpr, first_shape, ValidStmt}
-use Rattle.js_parser.specs.declared.context.Closer.TheVariants as c
-use Rattle.js_parser.specs.declared.context.Closer.{Closer}
-use Rattle.js_parser.specs.declared.context.Inside.{Inside}
-use Rattle.js_parser.specs.declared.depth.Depth.{Depth}
-use Rattle.js_parser.specs.declared.operand.Operand.{Operand}
-use Rattle.js_parser.specs.declared.operand.Part.{Part}
-use Rattle.js_parser.specs.declared.series.State.{State}
-use Rattle.js_parser.specs.Next.{Next, place, shows, text}
-use Rattle.js_parser.specs.Operands.{nothing, both, raised, context, first_context, level_flaw, name_of}
+use Rattle.js_nodes.specs.declared.context.Closer.TheVariants as c
+use Rattle.js_nodes.specs.declared.context.Closer.{Closer}
+use Rattle.js_nodes.specs.declared.context.Inside.{Inside}
+use Rattle.js_nodes.specs.declared.depth.Depth.{Depth}
+use Rattle.js_nodes.specs.declared.operand.Operand.{Operand}
+use Rattle.js_nodes.specs.declared.operand.Part.{Part}
+use Rattle.js_nodes.specs.declared.series.State.{State}
+use Rattle.js_nodes.specs.Next.{Next, place, shows, text}
+use Rattle.js_nodes.specs.Operands.{nothing, both, raised, context, first_context, level_flaw, name_of}
 use Rattle.js_parser.specs.Levels.{Level}
-use Rattle.js_parser.specs.Functions.{state}
-use Rattle.js_parser.specs.Statements.{declared, turning}
+use Rattle.js_nodes.specs.Pieces.{state}
+use Rattle.js_nodes.specs.Pieces.{declared, turning}
 use Rattle.js_parser.specs.Heads.{head_part, for_rest, for_each, for_named, for_variables, for_expression, for_head, for_statement}
 use Rattle.js_parser.proofs.ValidMore.{there_more, expr_more, stmt_more}
 use Rattle.js_parser.proofs.ValidCodes.{Ready, Adds, adds_length, adds_none, adds_both}

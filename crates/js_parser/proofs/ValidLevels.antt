@@ -5,13 +5,13 @@ use Rattle.std.proofs.lemmas.List.Elements.{All-nil, All-weaker}
 use Rattle.js_tree.specs.declared.code.FnCode.{FnCode}
 use Rattle.js_tree.specs.declared.stmt.Stmt.{Stmt, out-Stmt}
 use Rattle.js_tree.specs.Valid.{AreDistinct, Surroundings, first_shape, ValidStmt, IsNamed}
-use Rattle.js_parser.specs.declared.context.Context.{Context}
-use Rattle.js_parser.specs.declared.context.Inside.{Inside}
-use Rattle.js_parser.specs.declared.series.State.{State}
-use Rattle.js_parser.specs.declared.series.Said.{Said}
-use Rattle.js_parser.specs.declared.series.Body.{Body}
-use Rattle.js_parser.specs.Operands.{nothing}
-use Rattle.js_parser.specs.Functions.{state, body}
+use Rattle.js_nodes.specs.declared.context.Context.{Context}
+use Rattle.js_nodes.specs.declared.context.Inside.{Inside}
+use Rattle.js_nodes.specs.declared.series.State.{State}
+use Rattle.js_nodes.specs.declared.series.Said.{Said}
+use Rattle.js_nodes.specs.declared.series.Body.{Body}
+use Rattle.js_nodes.specs.Operands.{nothing}
+use Rattle.js_nodes.specs.Pieces.{state, body}
 use Rattle.js_parser.specs.Levels.{Level}
 use Rattle.js_parser.proofs.ValidMore.{stmt_more}
 use Rattle.js_parser.proofs.ValidCodes.{Ready, Adds, adds_none}

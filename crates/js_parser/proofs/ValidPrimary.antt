@@ -15,17 +15,20 @@ use Rattle.js_tree.specs.declared.expr.Expr.{Expr, out-Expr}
 use Rattle.js_tree.specs.declared.expr.Expr.TheVariants as e
 use Rattle.js_tree.specs.declared.expr.Entry.{Entry}
 use Rattle.js_tree.specs.Valid.{AreDistinct, ExprNode, ValidExpr}
-use Rattle.js_parser.specs.declared.fault.Fault.{Fault}
-use Rattle.js_parser.specs.declared.context.Closer.TheVariants as c
-use Rattle.js_parser.specs.declared.context.Context.{Context}
-use Rattle.js_parser.specs.declared.operand.Operand.{Operand}
-use Rattle.js_parser.specs.declared.operand.Row.{Row}
-use Rattle.js_parser.specs.declared.operand.Entries.{Entries}
-use Rattle.js_parser.specs.Next.{Next, of, place, shows, is_key, text}
-use Rattle.js_parser.specs.Operands.{nothing, both, raised, operand, leaf, row, row_more, context}
+use Rattle.js_nodes.specs.declared.fault.Fault.{Fault}
+use Rattle.js_nodes.specs.declared.context.Closer.TheVariants as c
+use Rattle.js_nodes.specs.declared.context.Context.{Context}
+use Rattle.js_nodes.specs.declared.operand.Operand.{Operand}
+use Rattle.js_nodes.specs.declared.operand.Row.{Row}
+use Rattle.js_nodes.specs.declared.operand.Entries.{Entries}
+use Rattle.js_nodes.specs.Next.{Next, of, place, shows, is_key, text}
+use Rattle.js_nodes.specs.Operands.{nothing, both, raised, operand, leaf, row, row_more, context}
 use Rattle.js_parser.specs.Levels.{Level}
-use Rattle.js_parser.specs.Functions.{has, function_code}
-use Rattle.js_parser.specs.Primary.{item, list_more, list_items, list, entries, has_key, key_flaw, entry, object_more, object_entries, object, function, parens, primary_kind, primary_by, primary}
+use Rattle.js_nodes.specs.Pieces.{has}
+use Rattle.js_parser.specs.Functions.{function_code}
+use Rattle.js_parser.specs.Primary.{item, list_more, list_items, list, entry, object_more, object_entries, object, function, parens, primary_kind, primary_by, primary}
+use Rattle.js_nodes.specs.Pieces.{entries, has_key}
+use Rattle.js_cursor.specs.Questions.{key_flaw}
 use Rattle.js_parser.proofs.ValidMore.{expr_more}
 use Rattle.js_parser.proofs.ValidCodes.{Ready, Adds, adds_length, adds_none, adds_both}
 use Rattle.js_parser.proofs.ValidFits.{Fine, Has, use_of, let_through, height_raised, left_height, right_height, both_height, FitsExpr, wider, node_fits, FitsRow, no_row, row_fits}

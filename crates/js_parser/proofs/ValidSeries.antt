@@ -8,16 +8,17 @@ use Rattle.js_tree.specs.declared.stmt.Stmt.{Stmt, out-Stmt}
 use Rattle.js_tree.specs.declared.stmt.Case.{Case}
 use Rattle.js_tree.specs.declared.stmt.Decl.{Decl}
 use Rattle.js_tree.specs.Valid.{AreDistinct, IfThere, ValidExpr, Surroundings, in_switch, counted, defaults, StmtNode, ValidStmt}
-use Rattle.js_parser.specs.declared.depth.Depth.{Depth}
-use Rattle.js_parser.specs.declared.operand.Operand.{Operand}
-use Rattle.js_parser.specs.declared.series.State.{State}
-use Rattle.js_parser.specs.declared.series.Said.{Said}
-use Rattle.js_parser.specs.declared.series.Series.{Series}
-use Rattle.js_parser.specs.declared.series.Decls.{Decls}
-use Rattle.js_parser.specs.declared.series.Cases.{Cases}
-use Rattle.js_parser.specs.Operands.{nothing, both}
-use Rattle.js_parser.specs.Functions.{has, state}
-use Rattle.js_parser.specs.Statements.{said, series, decls, cases, once, decls_more}
+use Rattle.js_nodes.specs.declared.depth.Depth.{Depth}
+use Rattle.js_nodes.specs.declared.operand.Operand.{Operand}
+use Rattle.js_nodes.specs.declared.series.State.{State}
+use Rattle.js_nodes.specs.declared.series.Said.{Said}
+use Rattle.js_nodes.specs.declared.series.Series.{Series}
+use Rattle.js_nodes.specs.declared.series.Decls.{Decls}
+use Rattle.js_nodes.specs.declared.series.Cases.{Cases}
+use Rattle.js_nodes.specs.Operands.{nothing, both}
+use Rattle.js_nodes.specs.Pieces.{has, state}
+use Rattle.js_nodes.specs.Pieces.{said, series, decls, cases, once}
+use Rattle.js_parser.specs.Statements.{decls_more}
 use Rattle.js_parser.proofs.ValidMore.{there_more, expr_more, stmt_more, stmt_node}
 use Rattle.js_parser.proofs.ValidCodes.{Adds, adds_length, adds_none, adds_both}
 use Rattle.js_parser.proofs.ValidFits.{height_raised, left_height, right_height, both_height, FitsExpr}

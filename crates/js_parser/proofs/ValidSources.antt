@@ -15,17 +15,19 @@ use Rattle.js_tree.specs.declared.code.Program.{Program}
 use Rattle.js_tree.specs.declared.stmt.Stmt.TheVariants as s
 use Rattle.js_tree.specs.Valid.{Surroundings, ValidStmt, IsNamed, ValidCode, IsValid}
 use Rattle.js_tree.specs.Valid as valid
-use Rattle.js_parser.specs.declared.context.Inside.{Inside}
-use Rattle.js_parser.specs.declared.operand.Coded.{Coded}
-use Rattle.js_parser.specs.declared.series.State.{State}
-use Rattle.js_parser.specs.declared.series.Said.{Said}
-use Rattle.js_parser.specs.declared.series.Body.{Body}
-use Rattle.js_parser.specs.Next.{Next, of, place, is_there, text}
-use Rattle.js_parser.specs.Words.{too_deep}
-use Rattle.js_parser.specs.Operands.{nothing, both, raised}
+use Rattle.js_nodes.specs.declared.context.Inside.{Inside}
+use Rattle.js_nodes.specs.declared.operand.Coded.{Coded}
+use Rattle.js_nodes.specs.declared.series.State.{State}
+use Rattle.js_nodes.specs.declared.series.Said.{Said}
+use Rattle.js_nodes.specs.declared.series.Body.{Body}
+use Rattle.js_nodes.specs.Next.{Next, of, place, is_there, text}
+use Rattle.js_cursor.specs.Words.{too_deep}
+use Rattle.js_nodes.specs.Operands.{nothing, both, raised}
 use Rattle.js_parser.specs.Levels.{Level}
-use Rattle.js_parser.specs.Functions.{state, body}
-use Rattle.js_parser.specs.Sources.{opens_kind, opens, requires_part, statement_kind, statement_by, statement, body_more, declaration, source, level, outside, program_of, program}
+use Rattle.js_nodes.specs.Pieces.{state, body}
+use Rattle.js_nodes.specs.Classes.{opens_kind, opens, requires_part}
+use Rattle.js_parser.specs.Sources.{statement_kind, statement_by, statement, body_more, declaration, source, level, program_of, program}
+use Rattle.js_nodes.specs.Pieces.{outside}
 use Rattle.js_parser.proofs.ValidCodes.{adds_length, adds_named, adds_none, adds_both}
 use Rattle.js_parser.proofs.ValidFits.{Fine, Has, use_of, let_through, height_raised, left_height, right_height, both_height}
 use Rattle.js_parser.proofs.ValidLevels.{around, FitsState, FitsSaid, FitsBody, Valid, no_body, stmts_more}

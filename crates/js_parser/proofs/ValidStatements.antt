@@ -13,22 +13,26 @@ use Rattle.js_tree.specs.declared.stmt.Stmt.{Stmt, out-Stmt}
 use Rattle.js_tree.specs.declared.stmt.Stmt.TheVariants as s
 use Rattle.js_tree.specs.declared.stmt.Handler.{Handler}
 use Rattle.js_tree.specs.Valid.{AreDistinct, IfThere, ValidExpr, Surroundings, in_switch, counted, defaults, StmtNode, ValidStmt}
-use Rattle.js_parser.specs.declared.context.Closer.TheVariants as c
-use Rattle.js_parser.specs.declared.context.Context.{Context}
-use Rattle.js_parser.specs.declared.context.Inside.{Inside}
-use Rattle.js_parser.specs.declared.depth.Depth.{Depth}
-use Rattle.js_parser.specs.declared.operand.Operand.{Operand}
-use Rattle.js_parser.specs.declared.series.State.{State}
-use Rattle.js_parser.specs.declared.series.Said.{Said}
-use Rattle.js_parser.specs.declared.series.Series.{Series}
-use Rattle.js_parser.specs.declared.series.Decls.{Decls}
-use Rattle.js_parser.specs.declared.series.Cases.{Cases}
-use Rattle.js_parser.specs.Next.{Next, place, shows, says, text}
-use Rattle.js_parser.specs.Operands.{nothing, both, context}
-use Rattle.js_parser.specs.Words.{R}
+use Rattle.js_nodes.specs.declared.context.Closer.TheVariants as c
+use Rattle.js_nodes.specs.declared.context.Context.{Context}
+use Rattle.js_nodes.specs.declared.context.Inside.{Inside}
+use Rattle.js_nodes.specs.declared.depth.Depth.{Depth}
+use Rattle.js_nodes.specs.declared.operand.Operand.{Operand}
+use Rattle.js_nodes.specs.declared.series.State.{State}
+use Rattle.js_nodes.specs.declared.series.Said.{Said}
+use Rattle.js_nodes.specs.declared.series.Series.{Series}
+use Rattle.js_nodes.specs.declared.series.Decls.{Decls}
+use Rattle.js_nodes.specs.declared.series.Cases.{Cases}
+use Rattle.js_nodes.specs.Next.{Next, place, shows, says, text}
+use Rattle.js_nodes.specs.Operands.{nothing, both, context}
+use Rattle.js_cursor.specs.Words.{R}
 use Rattle.js_parser.specs.Levels.{Level}
-use Rattle.js_parser.specs.Functions.{state, in_block}
-use Rattle.js_parser.specs.Statements.{said, series, decls, cases, turning, choosing, series_more, statements, braced, block_statement, initial, decl_more, variables, var_statement, else_part, if_statement, do_statement, while_statement, jump, return_statement, throw_statement, in_case, case_body, case_part, is_case, switch_statement, handler, finally_part, caught, catch_part, try_statement, expression_statement}
+use Rattle.js_nodes.specs.Pieces.{state}
+use Rattle.js_cursor.specs.Questions.{in_block}
+use Rattle.js_nodes.specs.Pieces.{said, series, decls, cases, braces, before_else, turning, doing, choosing}
+use Rattle.js_parser.specs.Statements.{series_more, statements, braced, block_statement, initial, decl_more, variables, var_statement, else_part, if_statement, do_statement, while_statement, return_statement, throw_statement, case_body, case_part, switch_cases, switch_statement, handler, finally_part, caught, catch_part, try_statement, expression_statement}
+use Rattle.js_cursor.specs.Rules.{jump}
+use Rattle.js_cursor.specs.Questions.{in_case, is_case}
 use Rattle.js_parser.proofs.ValidCodes.{adds_length, Adds, adds_none, adds_both}
 use Rattle.js_parser.proofs.ValidFits.{Fine, Has, use_of, left_height, right_height, both_height, FitsExpr, wider}
 use Rattle.js_parser.proofs.ValidLevels.{around, FitsState, FitsSaid, FitsVar, Valid, stmts_more}
@@ -62,7 +66,7 @@ module _ (room : ℕ) (below : Level) (known : Valid room below) where
   pub block_fits : (inside : Inside) (added : State) (t : Next) → FitsState added → Has (block_statement below inside added t) (FitsSaid (suc room) (around inside) added.codes)
   unfolding block_statement
   block_fits inside added t f = record {
-    at = λ u. use_of (statements_fit inside added f) u _ (λ y r k. λ _ _ _.
+    at = λ u. use_of (statements_fit (braces inside) added f) u _ (λ y r k. λ _ _ _.
         said_fits room (around inside) added.codes (s.Block y.stmts) y.state (place t) y.depth k.adds k.vars k.height (rw (s.outs-Block y.stmts) k.valid));
   }
 
@@ -93,9 +97,9 @@ module _ (room : ℕ) (below : Level) (known : Valid room below) where
   unfolding variables
   variables_fit x at n q added f = record { at = λ t. use_of (initial_fits x n added.codes (decls [] added nothing) (no_decls room added f)) t _ (λ d u k. decls_then x at q added.codes d u k) }
 
-  pub var_statement_fits : (inside : Inside) (added : State) (t : Next) → FitsState added → Has (var_statement (suc room) below added t) (FitsSaid (suc room) (around inside) added.codes)
+  pub var_statement_fits : (inside : Inside) (added : State) (t : Next) → FitsState added → Has (var_statement (suc room) below inside added t) (FitsSaid (suc room) (around inside) added.codes)
   unfolding var_statement
-  var_statement_fits inside added t f = record { at = λ u. (tt, λ _ _ r. use_of (variables_fit (context c.Statement) (place t) (text u) (around inside) added f) r _ (λ y v k. (λ _ _ _. k.fits, λ _. k.fits))) }
+  var_statement_fits inside added t f = record { at = λ u. (tt, λ _ _ r. use_of (variables_fit (context (c.Statement inside.after)) (place t) (text u) (around inside) added f) r _ (λ y v k. (λ _ _ _. k.fits, λ _. k.fits))) }
 
   -- ---- `if`, `do` and `while`
 
@@ -125,13 +129,13 @@ module _ (room : ℕ) (below : Level) (known : Valid room below) where
   unfolding if_statement
   if_fits inside added t f = record {
     at = λ u. λ _ _ r. use_of (known.expr (context c.Paren) added.codes f.ready) r _ (λ x v k. λ _ _ z.
-        use_of (known.statement inside (state x.codes added.vars) (after_expr f k)) z _ (λ y o m. (else_fits inside added.codes t x y k m).at o));
+        use_of (known.statement (before_else inside) (state x.codes added.vars) (after_expr f k)) z _ (λ y o m. (else_fits inside added.codes t x y k m).at o));
   }
 
   pub do_fits : (inside : Inside) (added : State) (t : Next) → FitsState added → Has (do_statement below inside added t) (FitsSaid (suc room) (around inside) added.codes)
   unfolding do_statement
   do_fits inside added t f = record {
-    at = λ u. use_of (known.statement (turning inside) added f) u _ (λ y r k. λ _ _ _. λ _ _ v. use_of (known.expr (context c.Paren) y.state.codes k.adds.ready) v _ (λ x z m. λ _ _ o.
+    at = λ u. use_of (known.statement (doing inside) added f) u _ (λ y r k. λ _ _ _. λ _ _ v. use_of (known.expr (context c.Paren) y.state.codes k.adds.ready) v _ (λ x z m. λ _ _ o.
         let h = (both y.depth x.depth).height in
         let fit = said_fits room (around inside) added.codes (s.DoWhile y.stmt x.value) (state x.codes y.state.vars) (place t) (both y.depth x.depth) (adds_both k.adds m.adds) k.vars (both_height y.depth x.depth room k.height m.height)
         (rw (s.outs-DoWhile y.stmt x.value) (
@@ -166,34 +170,34 @@ module _ (room : ℕ) (below : Level) (known : Valid room below) where
   one_part : (inside : Inside) (stmt : Stmt) (added : State) (at : ℕ) (x : Operand) → FitsState added → FitsExpr room added.codes x → StmtNode (ValidExpr x.depth.height (length x.codes)) (ValidStmt x.depth.height (length x.codes)) (around inside) (out-Stmt stmt) → FitsSaid (suc room) (around inside) added.codes (said stmt (state x.codes added.vars) at x.depth)
   one_part inside stmt added at x f k node = said_fits room (around inside) added.codes stmt (state x.codes added.vars) at x.depth k.adds f.vars k.height node
 
-  pub return_fits : (inside : Inside) (added : State) (t : Next) → FitsState added → inside.function ≡ true → Has (return_statement below added t) (FitsSaid (suc room) (around inside) added.codes)
+  pub return_fits : (inside : Inside) (added : State) (t : Next) → FitsState added → inside.function ≡ true → Has (return_statement below inside added t) (FitsSaid (suc room) (around inside) added.codes)
   unfolding return_statement
   return_fits inside added t f e =
       let empty = said_fits room (around inside) added.codes (s.Return None) added (place t) nothing (adds_none added.codes f.ready) f.vars (omega arith) (rw (s.outs-Return None) (e, tt)) in
       record {
         at = λ u. (
           (λ _ _ _. empty, λ _. empty),
-          λ _. use_of (known.expr (context c.Statement) added.codes f.ready) u _ (λ x r k.
+          λ _. use_of (known.expr (context (c.Statement inside.after)) added.codes f.ready) u _ (λ x r k.
               let fit = one_part inside (s.Return (Some x.value)) added (place t) x f k (rw (s.outs-Return (Some x.value)) (e, k.valid)) in
               (λ _ _ _. fit, λ _. fit)),
         );
       }
 
-  pub throw_fits : (inside : Inside) (added : State) (t : Next) → FitsState added → Has (throw_statement below added t) (FitsSaid (suc room) (around inside) added.codes)
+  pub throw_fits : (inside : Inside) (added : State) (t : Next) → FitsState added → Has (throw_statement below inside added t) (FitsSaid (suc room) (around inside) added.codes)
   unfolding throw_statement
   throw_fits inside added t f = record {
     at = λ u. (
       tt,
-      λ _. λ _. use_of (known.expr (context c.Statement) added.codes f.ready) u _ (λ x r k.
+      λ _. λ _. use_of (known.expr (context (c.Statement inside.after)) added.codes f.ready) u _ (λ x r k.
           let fit = one_part inside (s.Throw x.value) added (place t) x f k (rw (s.outs-Throw x.value) k.valid) in
           (λ _ _ _. fit, λ _. fit)),
     );
   }
 
-  pub expression_fits : (inside : Inside) (added : State) → FitsState added → Has (expression_statement below added) (FitsSaid (suc room) (around inside) added.codes)
+  pub expression_fits : (inside : Inside) (added : State) → FitsState added → Has (expression_statement below inside added) (FitsSaid (suc room) (around inside) added.codes)
   unfolding expression_statement
   expression_fits inside added f = record {
-    at = λ u. use_of (known.expr (context c.Statement) added.codes f.ready) u _ (λ x r k.
+    at = λ u. use_of (known.expr (context (c.Statement inside.after)) added.codes f.ready) u _ (λ x r k.
         let fit = one_part inside (s.Expr x.value) added x.at x f k (rw (s.outs-Expr x.value) k.valid) in
         (tt, λ _. (λ _ _ _. fit, λ _. fit)));
   }
@@ -224,7 +228,7 @@ module _ (room : ℕ) (below : Level) (known : Valid room below) where
   }
 
   pub switch_fits : (inside : Inside) (added : State) (t : Next) → FitsState added → Has (switch_statement below inside added t) (FitsSaid (suc room) (around inside) added.codes)
-  unfolding switch_statement
+  unfolding switch_statement switch_cases
   switch_fits inside added t f = record {
     at = λ u. λ _ _ r. use_of (known.expr (context c.Paren) added.codes f.ready) r _ (λ x v k. λ _ _ z. λ _ _ o.
         kept Fine (λ _ u. is_case u) (case_part below inside) (cases [] (state x.codes added.vars) false nothing) o _ (FitsCases room (around inside) x.codes)
@@ -244,7 +248,7 @@ module _ (room : ℕ) (below : Level) (known : Valid room below) where
 
   -- a block in its braces, and what stands behind it
   in_braces : {A : Type 0} (inside : Inside) (added : State) (g : Series → R A) (t : Next) (S : A → Next → Type 0) → FitsState added → ((y : Series) (u : Next) → FitsSeries room (around inside) added.codes y → Gives Fine (g y) u S) → Gives Fine (braced inside below added >>= g) t S
-  in_braces inside added g t S f k = λ _ _ u. use_of (statements_fit inside added f) u _ (λ y r m. λ _ _ v. k y v m)
+  in_braces inside added g t S f k = λ _ _ u. use_of (statements_fit (braces inside) added f) u _ (λ y r m. λ _ _ v. k y v m)
 
   finally_fits : (inside : Inside) (cs : List FnCode) (t : Next) (y : Series) → FitsSeries room (around inside) cs y → Has (finally_part below inside t y) (FitsSaid (suc room) (around inside) cs)
   unfolding finally_part
@@ -297,6 +301,6 @@ module _ (room : ℕ) (below : Level) (known : Valid room below) where
   pub try_statement_fits : (inside : Inside) (added : State) (t : Next) → FitsState added → Has (try_statement below inside added t) (FitsSaid (suc room) (around inside) added.codes)
   unfolding try_statement
   try_statement_fits inside added t f = record {
-    at = λ u. λ _ _ r. use_of (statements_fit inside added f) r _ (λ y v k. λ _ _ z.
+    at = λ u. λ _ _ r. use_of (statements_fit (braces inside) added f) r _ (λ y v k. λ _ _ z.
         ((catch_fits inside added.codes t y k).at z, (finally_fits inside added.codes t y k).at z));
   }

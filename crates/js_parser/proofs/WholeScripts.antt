@@ -15,13 +15,13 @@ use Rattle.js_lexer.proofs.Decided.{source_decided}
 use Rattle.js_lexer.proofs.Numerals.{numerals}
 use Rattle.js_tree.specs.declared.code.Program.{Program}
 use Rattle.js_tree.specs.Valid.{IsValid}
-use Rattle.js_parser.specs.declared.fault.Fault.{Fault}
-use Rattle.js_parser.specs.declared.fault.Fault.TheVariants as f
-use Rattle.js_parser.specs.declared.fault.ParseError.{ParseError}
+use Rattle.js_nodes.specs.declared.fault.Fault.{Fault}
+use Rattle.js_nodes.specs.declared.fault.Fault.TheVariants as f
+use Rattle.js_nodes.specs.declared.fault.ParseError.{ParseError}
 use Rattle.js_parser.specs.declared.fault.ScriptFault.{ScriptFault}
 use Rattle.js_parser.specs.declared.fault.ScriptFault.TheVariants.{Lex, Syntax, Nesting, LeftOut, NoMemory}
-use Rattle.js_parser.specs.Next.{Next}
-use Rattle.js_parser.specs.Reads.{Reads, Unfits}
+use Rattle.js_nodes.specs.Next.{Next}
+use Rattle.js_cursor.specs.Reads.{Reads, Unfits}
 use Rattle.js_parser.specs.Faults as faults
 use Rattle.js_parser.specs.Sources.{program}
 use Rattle.js_parser.specs.Scripts.{IsProgram, shown, ParseFaultAt, TokensFaultAt, IsScript, ParsesAs, ScriptFaultAt, Judged}

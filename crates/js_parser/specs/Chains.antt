@@ -1,21 +1,23 @@
 -- Left-hand-side expressions (ECMA-262 5.1, 11.2).
-use Rattle.std.specs.Prelude.{ℕ, Bool, true, false, not, List, [], Some, None}
+use Rattle.std.specs.Prelude.{ℕ, Bool, not, List, [], Some, None}
 use Rattle.grammar.specs.Grammar.{done, refused, or, again}
-use Rattle.grammar.specs.Words.{◌>>=◌, ◌>>◌, one, next}
+use Rattle.grammar.specs.Words.{◌>>=◌, ◌>>◌, next}
 use Rattle.js_lexer.specs.declared.token.Kind.{Kind}
+use Rattle.js_tree.specs.declared.code.FnCode.{FnCode}
+use Rattle.js_nodes.specs.declared.operand.Operand.{Operand}
+use Rattle.js_nodes.specs.declared.operand.Row.{Row}
+use Rattle.js_nodes.specs.Next.{Next, of, place, shows, says}
+use Rattle.js_cursor.specs.Words.{R, takes, deeper, sign}
+use Rattle.js_nodes.specs.Operands.{nothing, both, raised, operand, row, context, level_flaw}
+use Rattle.js_parser.specs.Levels.{Level}
+use Rattle.js_parser.specs.Primary.{item, primary}
+use Rattle.js_nodes.specs.Classes.{is_access, is_link}
+use Rattle.js_cursor.specs.Rules.{member, indexed}
 use Rattle.js_lexer.specs.declared.token.Kind.TheVariants as k
 use Rattle.js_lexer.specs.declared.token.Punct.TheVariants as p
 use Rattle.js_lexer.specs.declared.token.Word.TheVariants as w
-use Rattle.js_tree.specs.declared.code.FnCode.{FnCode}
 use Rattle.js_tree.specs.declared.expr.Expr.TheVariants as e
-use Rattle.js_parser.specs.declared.context.Closer.TheVariants as c
-use Rattle.js_parser.specs.declared.operand.Operand.{Operand}
-use Rattle.js_parser.specs.declared.operand.Row.{Row}
-use Rattle.js_parser.specs.Next.{Next, of, place, shows, says, is_word_or_name, text}
-use Rattle.js_parser.specs.Words.{R, takes, deeper, sign}
-use Rattle.js_parser.specs.Operands.{nothing, both, raised, operand, over, above, row, context, level_flaw}
-use Rattle.js_parser.specs.Levels.{Level}
-use Rattle.js_parser.specs.Primary.{item, primary}
+use Rattle.js_nodes.specs.declared.context.Closer.TheVariants as c
 
 abbrev pub argument_more : Level → Row → R Row
 argument_more below r = do
@@ -34,31 +36,11 @@ unfoldable pub arguments : Level → List FnCode → R Row
 arguments below codes = or (sign p.RightParen >> done (row [] codes nothing))
     (next (λ t. not (shows p.RightParen t)) >> some_arguments below codes)
 
--- behind `.`
-abbrev pub member : Operand → R Operand
-member x = do
-  t ← one (of is_word_or_name)
-  done (over (e.Member x.value (text t)) x)
-
 -- behind `[`
 abbrev pub index : Level → Operand → R Operand
 index below x = do
   y ← below.expr (context c.Bracket) x.codes
-  sign p.RightBracket
-  done (above (e.Index x.value y.value) x y)
-
--- a property
-abbrev pub is_access : Kind → Bool
-is_access (k.Punct p.Dot) = true
-is_access (k.Punct p.LeftBracket) = true
-is_access _ = false
-
--- a property or a call
-abbrev pub is_link : Kind → Bool
-is_link (k.Punct p.Dot) = true
-is_link (k.Punct p.LeftBracket) = true
-is_link (k.Punct p.LeftParen) = true
-is_link _ = false
+  indexed x.value x.at x.depth y
 
 abbrev pub call : Level → Operand → R Operand
 call below x = do

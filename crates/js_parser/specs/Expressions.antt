@@ -1,61 +1,30 @@
 -- Expressions from the postfix operators up (ECMA-262 5.1, 11.3 to 11.14).
-use Rattle.std.specs.Prelude.{ℕ, zero, suc, ◌-◌, Bool, false, not, cond, ◌||◌, ◌&&◌, ◌==◌, nat_le, List, Option, Some, None}
-use Rattle.grammar.specs.Grammar.{done, refused, or, again}
-use Rattle.grammar.specs.Words.{◌>>=◌, ◌>>◌, next, barred}
-use Rattle.js_lexer.specs.declared.token.Kind.{Kind}
-use Rattle.js_lexer.specs.declared.token.Punct.TheVariants as p
-use Rattle.js_lexer.specs.declared.token.Word.TheVariants as w
+use Rattle.std.specs.Prelude.{ℕ, zero, suc, ◌-◌, Bool, not, cond, ◌==◌, nat_le, List, Option, Some, None}
+use Rattle.grammar.specs.Grammar.{done, or, again}
+use Rattle.grammar.specs.Words.{◌>>=◌, ◌>>◌, next}
 use Rattle.js_tree.specs.declared.code.FnCode.{FnCode}
-use Rattle.js_tree.specs.declared.expr.Expr.TheVariants as e
-use Rattle.js_parser.specs.declared.fault.Fault.{Fault}
-use Rattle.js_parser.specs.declared.fault.Fault.TheVariants.{LeftOut, Nesting}
-use Rattle.js_parser.specs.declared.context.Context.{Context}
-use Rattle.js_parser.specs.declared.operand.Operand.{Operand}
-use Rattle.js_parser.specs.Next.{Next, of, place, shows, says, is_on_new_line, is_name, is_left_out_name, is_slash, text}
-use Rattle.js_parser.specs.Operators.{is_assignment, is_step, is_prefix, step_op, prefix_value, joined, assigned}
-use Rattle.js_parser.specs.Words.{R, sound, takes, deeper, sign}
-use Rattle.js_parser.specs.Operands.{both, raised, operand, leaf, over, above, level_flaw, target_flaw, prefix_flaw, first_context, middle, binds, continues, follows}
+use Rattle.js_tree.specs.declared.expr.Expr.{Expr}
+use Rattle.js_nodes.specs.declared.depth.Depth.{Depth}
+use Rattle.js_nodes.specs.declared.fault.Fault.{Fault}
+use Rattle.js_nodes.specs.declared.context.Context.{Context}
+use Rattle.js_nodes.specs.declared.operand.Operand.{Operand}
+use Rattle.js_nodes.specs.Next.{Next, of, shows}
+use Rattle.js_nodes.specs.Operators.{is_assignment, is_prefix, joined, assigned}
+use Rattle.js_cursor.specs.Words.{R, takes, deeper, sign}
+use Rattle.js_nodes.specs.Operands.{both, raised, operand, above, level_flaw, target_flaw, prefix_flaw, first_context, middle, binds}
 use Rattle.js_parser.specs.Levels.{Level}
-use Rattle.js_parser.specs.Primary.{begins_primary}
-use Rattle.js_parser.specs.Chains.{left, is_link}
-
-abbrev pub with_kind : {A : Type 0} → (Kind → A) → A → Next → A
-with_kind f a None = a
-with_kind f a (Some t) = f t.kind
+use Rattle.js_parser.specs.Chains.{left}
+use Rattle.js_cursor.specs.Rules.{stepped_or_not, prefix_end, lone_name}
+use Rattle.js_lexer.specs.declared.token.Punct.TheVariants as p
+use Rattle.js_tree.specs.declared.expr.Expr.TheVariants as e
 
 -- ---- postfix and prefix operators
-
--- `++` or `--` with no line terminator before it (11.3, 7.9.1)
-abbrev pub is_postfix : Next → Bool
-is_postfix t = of is_step t && not (is_on_new_line t)
-
-abbrev pub stepped : Operand → Next → Operand
-stepped x None = x
-stepped x (Some t) = over (e.Step (step_op t.kind) false x.value) x
-
-abbrev pub stepped_or_not : ℕ → Operand → R Operand
-stepped_or_not room x = or
-    (do
-      t ← takes is_postfix (target_flaw room x)
-      done (stepped x t))
-    (do
-      next (λ t. not (is_postfix t))
-      done x)
 
 -- PostfixExpression
 unfoldable pub postfix : ℕ → Level → List FnCode → R Operand
 postfix room below codes = do
   x ← left room below codes
   stepped_or_not room x
-
-abbrev pub prefixed : Operand → Next → Operand
-prefixed x None = x
-prefixed x (Some t) = operand (prefix_value t.kind x.value) x.codes t.at (raised t.at x.depth)
-
--- behind the operand of the operator: where that is wrong, what may follow tells so
-abbrev pub prefix_end : Context → Next → Operand → Option Fault → R Operand
-prefix_end context t x None = done (prefixed x t)
-prefix_end context t x (Some f) = refused (λ u. cond (follows context u) (Some f) None)
 
 abbrev pub flaw_of_prefix : Next → Operand → Option Fault
 flaw_of_prefix None x = None
@@ -94,13 +63,18 @@ binary room below context (suc n) codes = do
   x ← binary room below context n codes
   again (λ _ t. binds_at context (suc n) t) (operation room below context (suc n)) x
 
+-- behind the `:`, with the levels of the test and of what stands before it
+abbrev pub other_branch : Level → Context → Expr → ℕ → Depth → Expr → List FnCode → R Operand
+other_branch below context test at depth middle codes = do
+  z ← below.assign context codes
+  done (operand (e.Cond test middle z.value) z.codes at (raised at (both depth z.depth)))
+
 -- behind the `?`
 abbrev pub branches : Level → Context → Operand → R Operand
 branches below context x = do
   y ← below.assign (middle context) x.codes
   sign p.Colon
-  z ← below.assign context y.codes
-  done (operand (e.Cond x.value y.value z.value) z.codes x.at (raised x.at (both (both x.depth y.depth) z.depth)))
+  other_branch below context x.value x.at (both x.depth y.depth) y.value y.codes
 
 abbrev pub chosen : ℕ → Level → Context → Operand → R Operand
 chosen room below context x = or
@@ -151,29 +125,7 @@ expr room below context codes = do
 
 -- ---- where no level is left
 
-abbrev pub begins_operand : Next → Bool
-begins_operand t = of begins_primary t || (says w.New t || of is_prefix t)
-
--- An operand would begin here, and has no level.
-abbrev pub operand_too_deep : Next → Option Fault
-operand_too_deep t = cond (of is_left_out_name t || of is_slash t) (Some (LeftOut (place t))) (cond (begins_operand t) (Some (Nesting (place t))) None)
-
 -- ---- the first part of a `for` head
-
--- An expression goes on so behind a name.
-abbrev pub goes_on : Next → Bool
-goes_on t = continues first_context t || (is_postfix t || of is_link t)
-
--- An operand other than a name would begin here, and has no level.
-abbrev pub unless_name : Next → Option Fault
-unless_name t = cond (of is_name t) None (operand_too_deep t)
-
--- a name that may stand alone before `in`, and has no level as an expression
-unfoldable pub lone_name : List FnCode → R Operand
-lone_name codes = do
-  t ← sound unless_name (of is_name)
-  barred (λ u. cond (goes_on u) (Some (Nesting (place t))) None)
-  done (leaf (e.Name (text t)) codes t)
 
 -- the expression, whose statement has so many levels
 unfoldable pub first : ℕ → Level → List FnCode → R Operand

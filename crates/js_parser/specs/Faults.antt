@@ -1,10 +1,10 @@
 -- Faults of a script, from those of its tokens' form and of what its rules read.
 use Rattle.js_lexer.specs.declared.fault.LexFault.{LexFault}
-use Rattle.js_lexer.specs.declared.fault.LexFault.TheVariants as l
-use Rattle.js_parser.specs.declared.fault.Fault.{Fault}
-use Rattle.js_parser.specs.declared.fault.Fault.TheVariants as f
+use Rattle.js_nodes.specs.declared.fault.Fault.{Fault}
 use Rattle.js_parser.specs.declared.fault.ScriptFault.{ScriptFault}
 use Rattle.js_parser.specs.declared.fault.ScriptFault.TheVariants.{Lex, Syntax, Nesting, LeftOut, NoMemory}
+use Rattle.js_lexer.specs.declared.fault.LexFault.TheVariants as l
+use Rattle.js_nodes.specs.declared.fault.Fault.TheVariants as f
 
 -- what is wrong with the tokens' own form
 abbrev pub of_lexer : LexFault → ScriptFault

@@ -1,13 +1,13 @@
 -- The rules that stand one level below others.
 use Rattle.std.specs.Prelude.{ℕ, List}
 use Rattle.js_tree.specs.declared.code.FnCode.{FnCode}
-use Rattle.js_parser.specs.declared.context.Context.{Context}
-use Rattle.js_parser.specs.declared.context.Inside.{Inside}
-use Rattle.js_parser.specs.declared.operand.Operand.{Operand}
-use Rattle.js_parser.specs.declared.series.State.{State}
-use Rattle.js_parser.specs.declared.series.Said.{Said}
-use Rattle.js_parser.specs.declared.series.Body.{Body}
-use Rattle.js_parser.specs.Words.{R}
+use Rattle.js_nodes.specs.declared.context.Context.{Context}
+use Rattle.js_nodes.specs.declared.context.Inside.{Inside}
+use Rattle.js_nodes.specs.declared.operand.Operand.{Operand}
+use Rattle.js_nodes.specs.declared.series.State.{State}
+use Rattle.js_nodes.specs.declared.series.Said.{Said}
+use Rattle.js_nodes.specs.declared.series.Body.{Body}
+use Rattle.js_cursor.specs.Words.{R}
 
 -- Each rule takes the codes so far, or all that was added so far, and gives them with what it adds.
 pub record Level : Type 1 where

@@ -1,7 +1,3 @@
-pub mod Next
-pub mod Operators
-pub mod Words
-pub mod Operands
 pub mod Levels
 pub mod Functions
 pub mod Primary
@@ -10,6 +6,6 @@ pub mod Expressions
 pub mod Statements
 pub mod Heads
 pub mod Sources
-pub mod Reads
 pub mod Faults
 pub mod Scripts
+pub mod Nests

@@ -1,28 +1,26 @@
 -- Primary expressions (ECMA-262 5.1, 11.1).
-use Rattle.std.specs.Prelude.{ℕ, Bool, true, false, not, cond, ◌||◌, ◌&&◌, nat_le, bytes_eq, List, [], ◌∷◌, ◌++◌, length, Option, Some, None}
-use Rattle.std.specs.List.{list_any}
+use Rattle.std.specs.Prelude.{ℕ, true, false, not, List, [], ◌∷◌, ◌++◌, length, Some, None}
 use Rattle.grammar.specs.Grammar.{done, refused, or, again}
 use Rattle.grammar.specs.Words.{◌>>=◌, ◌>>◌, next}
 use Rattle.js_lexer.specs.declared.token.Kind.{Kind}
+use Rattle.js_tree.specs.declared.code.FnCode.{FnCode}
+use Rattle.js_nodes.specs.declared.context.Context.{Context}
+use Rattle.js_nodes.specs.declared.operand.Operand.{Operand}
+use Rattle.js_nodes.specs.declared.operand.Row.{Row}
+use Rattle.js_nodes.specs.declared.operand.Entries.{Entries}
+use Rattle.js_nodes.specs.Next.{Next, of, place, shows, is_key, text}
+use Rattle.js_cursor.specs.Words.{R, sound, sign, name}
+use Rattle.js_nodes.specs.Operands.{nothing, both, raised, operand, leaf, row, row_more, context}
+use Rattle.js_parser.specs.Levels.{Level}
+use Rattle.js_parser.specs.Functions.{function_code}
+use Rattle.js_nodes.specs.Pieces.{entries}
+use Rattle.js_nodes.specs.Classes.{begins_primary}
+use Rattle.js_cursor.specs.Questions.{primary_flaw, key_flaw, accessor_flaw}
 use Rattle.js_lexer.specs.declared.token.Kind.TheVariants as k
 use Rattle.js_lexer.specs.declared.token.Punct.TheVariants as p
 use Rattle.js_lexer.specs.declared.token.Word.TheVariants as w
-use Rattle.js_tree.specs.declared.code.FnCode.{FnCode}
 use Rattle.js_tree.specs.declared.expr.Expr.TheVariants as e
-use Rattle.js_tree.specs.declared.expr.Entry.{Entry}
-use Rattle.js_parser.specs.declared.fault.Fault.{Fault}
-use Rattle.js_parser.specs.declared.fault.Fault.TheVariants.{LeftOut, Nesting, Syntax}
-use Rattle.js_parser.specs.declared.context.Closer.TheVariants as c
-use Rattle.js_parser.specs.declared.context.Context.{Context}
-use Rattle.js_parser.specs.declared.depth.Depth.{Depth}
-use Rattle.js_parser.specs.declared.operand.Operand.{Operand}
-use Rattle.js_parser.specs.declared.operand.Row.{Row}
-use Rattle.js_parser.specs.declared.operand.Entries.{Entries}
-use Rattle.js_parser.specs.Next.{Next, of, place, shows, is_name, is_left_out_name, is_slash, is_key, is_accessor, text}
-use Rattle.js_parser.specs.Words.{R, sound, sign, name}
-use Rattle.js_parser.specs.Operands.{nothing, both, raised, operand, leaf, row, row_more, context}
-use Rattle.js_parser.specs.Levels.{Level}
-use Rattle.js_parser.specs.Functions.{function_code}
+use Rattle.js_nodes.specs.declared.context.Closer.TheVariants as c
 
 -- ---- lists and objects
 
@@ -50,22 +48,6 @@ list_items below codes = do
 unfoldable pub list : Level → List FnCode → R Row
 list below codes = or (sign p.RightBracket >> done (row [] codes nothing))
     (next (λ t. not (shows p.RightBracket t)) >> list_items below codes)
-
-abbrev pub entries : List Entry → List FnCode → Depth → Entries
-entries es codes depth = record { entries = es; codes = codes; depth = depth }
-
-abbrev pub has_key : List Entry → List ℕ → Bool
-has_key es n = list_any (λ (entry : Entry). bytes_eq entry.key n) es
-
--- a key that stands among the entries (11.1.5, in strict code), or for whose value no level is left
-abbrev pub key_flaw : ℕ → List Entry → Next → Option Fault
-key_flaw room es t =
-    cond (of is_key t && has_key es (text t)) (Some (Syntax (place t)))
-    (cond (of is_key t && nat_le room 1) (Some (Nesting (place t))) None)
-
--- behind a key; another key behind `get` or `set` would make it an accessor, which is left out
-abbrev pub accessor_flaw : Next → Next → Option Fault
-accessor_flaw t u = cond (of is_accessor t && of is_key u) (Some (LeftOut (place t))) None
 
 -- PropertyAssignment
 unfoldable pub entry : ℕ → Level → Entries → R Entries
@@ -113,29 +95,6 @@ parens below codes t = do
   x ← below.expr (context c.Paren) codes
   sign p.RightParen
   done (operand x.value x.codes (place t) (raised (place t) x.depth))
-
-abbrev pub begins_primary : Kind → Bool
-begins_primary (k.Name n) = is_name (k.Name n)
-begins_primary (k.Num z) = true
-begins_primary (k.Str s) = true
-begins_primary (k.Word w.This) = true
-begins_primary (k.Word w.True) = true
-begins_primary (k.Word w.False) = true
-begins_primary (k.Word w.Null) = true
-begins_primary (k.Word w.Function) = true
-begins_primary (k.Punct p.LeftParen) = true
-begins_primary (k.Punct p.LeftBracket) = true
-begins_primary (k.Punct p.LeftBrace) = true
-begins_primary _ = false
-
--- a form that is left out where an operand must begin
-abbrev pub operand_left_out : Next → Option Fault
-operand_left_out t = cond (of is_left_out_name t || of is_slash t) (Some (LeftOut (place t))) None
-
-abbrev pub primary_flaw : ℕ → Next → Option Fault
-primary_flaw room t =
-    cond (of is_left_out_name t || of is_slash t) (Some (LeftOut (place t)))
-    (cond (shows p.LeftParen t && nat_le room 1) (Some (Nesting (place t))) None)
 
 -- what begins with this token, behind it
 unfoldable pub primary_kind : ℕ → Level → List FnCode → Next → Kind → R Operand

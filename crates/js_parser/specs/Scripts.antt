@@ -1,26 +1,22 @@
 -- What a script is, and which fault it shows (ECMA-262 5.1, section 14, with this project's restrictions).
-use Rattle.std.specs.Prelude.{◌≡◌, ℕ, cond, List, map, Option, Some, None, Result, Ok, Err}
+use Rattle.std.specs.Prelude.{◌≡◌, ℕ, List, map, Option, Some, None, Result, Ok, Err}
 use Rattle.grammar.specs.Grammar.{first, Derives}
 use Rattle.grammar.specs.Whole.{FaultAt}
 use Rattle.js_lexer.specs.declared.token.Token.{Token}
 use Rattle.js_lexer.specs.Tokens.{AreTokens, LexesAs}
 use Rattle.js_tree.specs.declared.code.Program.{Program}
-use Rattle.js_parser.specs.declared.fault.Fault.{Fault}
-use Rattle.js_parser.specs.declared.fault.Fault.TheVariants as f
+use Rattle.js_nodes.specs.declared.fault.Fault.{Fault}
 use Rattle.js_parser.specs.declared.fault.ScriptFault.{ScriptFault}
 use Rattle.js_parser.specs.declared.fault.ScriptFault.TheVariants.{Lex, Syntax, Nesting, LeftOut, NoMemory}
-use Rattle.js_parser.specs.Faults as faults
-use Rattle.js_parser.specs.Next.{Next, is_left_out_word}
+use Rattle.js_nodes.specs.Next.{Next}
 use Rattle.js_parser.specs.Sources.{program}
+use Rattle.js_cursor.specs.Questions.{misfit}
+use Rattle.js_nodes.specs.declared.fault.Fault.TheVariants as f
+use Rattle.js_parser.specs.Faults as faults
 
 -- The tokens are this program.
 abbrev pub IsProgram : List Token → Program → Type 0
 IsProgram tokens p = Derives program (map Some tokens) p None
-
--- what a token shows that fits no rule, or the end, which is at this byte
-abbrev pub misfit : ℕ → Next → Fault
-misfit end None = f.Syntax end
-misfit end (Some t) = cond (is_left_out_word t.kind) (f.LeftOut t.at) (f.Syntax t.at)
 
 -- what the rules say that it shows, or else that it fits none
 abbrev pub shown : ℕ → Option Fault → Next → Fault

@@ -1,73 +1,44 @@
 -- Statements by their first token, function declarations, and whole scripts (ECMA-262 5.1, sections 12 to 14).
-use Rattle.std.specs.Prelude.{ℕ, zero, suc, Bool, true, false, cond, ◌||◌, [], ◌∷◌, ◌++◌, length, Option, Some, None}
+use Rattle.std.specs.Prelude.{ℕ, zero, suc, [], ◌∷◌, ◌++◌, length, Some, None}
 use Rattle.grammar.specs.Grammar.{done, refused, or, again}
 use Rattle.grammar.specs.Words.{◌>>=◌, ◌>>◌, one, next}
 use Rattle.js_lexer.specs.declared.token.Kind.{Kind}
+use Rattle.js_tree.specs.declared.code.Program.{Program}
+use Rattle.js_nodes.specs.declared.context.Inside.{Inside}
+use Rattle.js_nodes.specs.declared.series.State.{State}
+use Rattle.js_nodes.specs.declared.series.Said.{Said}
+use Rattle.js_nodes.specs.declared.series.Body.{Body}
+use Rattle.js_nodes.specs.Next.{Next, of, place, is_there, says}
+use Rattle.js_cursor.specs.Words.{R, sound, too_deep, name}
+use Rattle.js_nodes.specs.Operands.{nothing, both, raised}
+use Rattle.js_parser.specs.Levels.{Level}
+use Rattle.js_nodes.specs.Pieces.{state, body, said, outside}
+use Rattle.js_parser.specs.Functions.{function_code}
+use Rattle.js_cursor.specs.Questions.{operand_too_deep, begins_statement, statement_too_deep, source_too_deep}
+use Rattle.js_parser.specs.Chains.{callee}
+use Rattle.js_parser.specs.Statements.{block_statement, variables, var_statement, if_statement, do_statement, while_statement, return_statement, throw_statement, switch_statement, try_statement, expression_statement}
+use Rattle.js_cursor.specs.Rules.{jump}
+use Rattle.js_parser.specs.Heads.{for_statement}
+use Rattle.js_nodes.specs.Classes.{opens, requires_part}
 use Rattle.js_lexer.specs.declared.token.Kind.TheVariants as k
 use Rattle.js_lexer.specs.declared.token.Punct.TheVariants as p
 use Rattle.js_lexer.specs.declared.token.Word.TheVariants as w
-use Rattle.js_tree.specs.declared.code.Program.{Program}
 use Rattle.js_tree.specs.declared.stmt.Stmt.TheVariants as s
-use Rattle.js_parser.specs.declared.fault.Fault.{Fault}
-use Rattle.js_parser.specs.declared.fault.Fault.TheVariants.{LeftOut, Nesting}
-use Rattle.js_parser.specs.declared.context.Inside.{Inside}
-use Rattle.js_parser.specs.declared.series.State.{State}
-use Rattle.js_parser.specs.declared.series.Said.{Said}
-use Rattle.js_parser.specs.declared.series.Body.{Body}
-use Rattle.js_parser.specs.Next.{Next, of, place, is_there, says, is_left_out_name, is_slash}
-use Rattle.js_parser.specs.Words.{R, sound, too_deep, name}
-use Rattle.js_parser.specs.Operands.{nothing, both, raised}
-use Rattle.js_parser.specs.Levels.{Level}
-use Rattle.js_parser.specs.Functions.{state, body, function_code}
 use Rattle.js_parser.specs.Expressions as expressions
-use Rattle.js_parser.specs.Expressions.{operand_too_deep}
-use Rattle.js_parser.specs.Chains.{callee}
-use Rattle.js_parser.specs.Statements.{begins_statement, block_statement, said, variables, var_statement, if_statement, do_statement, while_statement, jump, return_statement, throw_statement, switch_statement, try_statement, expression_statement}
-use Rattle.js_parser.specs.Heads.{for_statement}
-
--- a statement that its first token tells, and which may stand here
-abbrev pub opens_kind : Inside → Kind → Bool
-opens_kind inside (k.Punct p.LeftBrace) = true
-opens_kind inside (k.Punct p.Semicolon) = true
-opens_kind inside (k.Word w.Var) = true
-opens_kind inside (k.Word w.If) = true
-opens_kind inside (k.Word w.Do) = true
-opens_kind inside (k.Word w.While) = true
-opens_kind inside (k.Word w.For) = true
-opens_kind inside (k.Word w.Continue) = inside.turning
-opens_kind inside (k.Word w.Break) = inside.leaving
-opens_kind inside (k.Word w.Return) = inside.function
-opens_kind inside (k.Word w.Throw) = true
-opens_kind inside (k.Word w.Switch) = true
-opens_kind inside (k.Word w.Try) = true
-opens_kind inside _ = false
-
-unfoldable pub opens : Inside → Next → Bool
-opens inside t = of (opens_kind inside) t
-
--- a statement that requires a node one level deeper
-abbrev pub requires_part : Kind → Bool
-requires_part (k.Word w.If) = true
-requires_part (k.Word w.Do) = true
-requires_part (k.Word w.While) = true
-requires_part (k.Word w.For) = true
-requires_part (k.Word w.Throw) = true
-requires_part (k.Word w.Switch) = true
-requires_part _ = false
 
 -- what begins with this token, behind it
 unfoldable pub statement_kind : ℕ → Level → Inside → State → Next → Kind → R Said
 statement_kind room below inside added t (k.Punct p.LeftBrace) = block_statement below inside added t
 statement_kind room below inside added t (k.Punct p.Semicolon) = done (said s.Empty added (place t) nothing)
-statement_kind room below inside added t (k.Word w.Var) = var_statement room below added t
+statement_kind room below inside added t (k.Word w.Var) = var_statement room below inside added t
 statement_kind room below inside added t (k.Word w.If) = if_statement below inside added t
 statement_kind room below inside added t (k.Word w.Do) = do_statement below inside added t
 statement_kind room below inside added t (k.Word w.While) = while_statement below inside added t
 statement_kind room below inside added t (k.Word w.For) = for_statement room below inside added t
 statement_kind room below inside added t (k.Word w.Continue) = jump s.Continue added t
 statement_kind room below inside added t (k.Word w.Break) = jump s.Break added t
-statement_kind room below inside added t (k.Word w.Return) = return_statement below added t
-statement_kind room below inside added t (k.Word w.Throw) = throw_statement below added t
+statement_kind room below inside added t (k.Word w.Return) = return_statement below inside added t
+statement_kind room below inside added t (k.Word w.Throw) = throw_statement below inside added t
 statement_kind room below inside added t (k.Word w.Switch) = switch_statement below inside added t
 statement_kind room below inside added t (k.Word w.Try) = try_statement below inside added t
 statement_kind room below inside added t _ = refused (λ _. None)
@@ -85,7 +56,7 @@ told_statement room below inside added = do
 -- Statement (section 12)
 unfoldable pub statement : ℕ → Level → Inside → State → R Said
 statement room below inside added = or (told_statement room below inside added)
-    (next begins_statement >> expression_statement below added)
+    (next begins_statement >> expression_statement below inside added)
 
 abbrev pub body_more : Body → Said → Body
 body_more b x = body (b.stmts ++ x.stmt ∷ []) x.state b.funs (both b.depth x.depth)
@@ -106,15 +77,6 @@ source room below inside b = or (declaration below b)
       done (body_more b x))
 
 -- ---- levels
-
--- A statement would begin here, and has no level.
-abbrev pub statement_too_deep : Inside → Next → Option Fault
-statement_too_deep inside t =
-    cond (of is_left_out_name t || of is_slash t) (Some (LeftOut (place t)))
-    (cond (opens inside t || begins_statement t) (Some (Nesting (place t))) None)
-
-abbrev pub source_too_deep : Inside → Next → Option Fault
-source_too_deep inside t = cond (says w.Function t) (Some (Nesting (place t))) (statement_too_deep inside t)
 
 abbrev pub no_level : Level
 no_level = record {
@@ -146,10 +108,6 @@ level zero = no_level
 level (suc room) = next_level (suc room) (level room)
 
 -- ---- whole scripts
-
--- outside of functions
-abbrev pub outside : Inside
-outside = record { function = false; turning = false; leaving = false }
 
 abbrev pub program_of : Body → Program
 program_of b = record { codes = b.state.codes; body = b.stmts; vars = b.state.vars; funs = b.funs }

@@ -1,71 +1,35 @@
 -- Statements but for loops with heads and function declarations (ECMA-262 5.1, section 12).
-use Rattle.std.specs.Prelude.{ℕ, Bool, true, false, not, cond, ◌||◌, ◌&&◌, List, [], ◌∷◌, ◌++◌, Option, Some, None}
-use Rattle.grammar.specs.Grammar.{done, before, or, again}
+use Rattle.std.specs.Prelude.{ℕ, true, false, not, ◌&&◌, List, [], ◌∷◌, ◌++◌, Option, Some, None}
+use Rattle.grammar.specs.Grammar.{done, or, again}
 use Rattle.grammar.specs.Words.{◌>>=◌, ◌>>◌, one, next, barred}
-use Rattle.js_lexer.specs.declared.token.Punct.TheVariants as p
-use Rattle.js_lexer.specs.declared.token.Word.TheVariants as w
 use Rattle.js_tree.specs.declared.code.FnCode.{FnCode}
 use Rattle.js_tree.specs.declared.expr.Expr.{Expr}
 use Rattle.js_tree.specs.declared.stmt.Stmt.{Stmt}
-use Rattle.js_tree.specs.declared.stmt.Stmt.TheVariants as s
-use Rattle.js_tree.specs.declared.stmt.Case.{Case}
-use Rattle.js_tree.specs.declared.stmt.Decl.{Decl}
 use Rattle.js_tree.specs.declared.stmt.Handler.{Handler}
-use Rattle.js_parser.specs.declared.fault.Fault.{Fault}
-use Rattle.js_parser.specs.declared.fault.Fault.TheVariants.{LeftOut}
-use Rattle.js_parser.specs.declared.context.Closer.TheVariants as c
-use Rattle.js_parser.specs.declared.context.Context.{Context}
-use Rattle.js_parser.specs.declared.context.Inside.{Inside}
-use Rattle.js_parser.specs.declared.depth.Depth.{Depth}
-use Rattle.js_parser.specs.declared.operand.Operand.{Operand}
-use Rattle.js_parser.specs.declared.series.State.{State}
-use Rattle.js_parser.specs.declared.series.Said.{Said}
-use Rattle.js_parser.specs.declared.series.Series.{Series}
-use Rattle.js_parser.specs.declared.series.Decls.{Decls}
-use Rattle.js_parser.specs.declared.series.Cases.{Cases}
-use Rattle.js_parser.specs.Next.{Next, of, place, shows, says, is_on_new_line, is_identifier, is_left_out_name, is_slash}
-use Rattle.js_parser.specs.Words.{R, deeper, sign, word, name}
-use Rattle.js_parser.specs.Operands.{nothing, both, raised, context, is_bare_name, inserted, ends}
+use Rattle.js_nodes.specs.declared.context.Context.{Context}
+use Rattle.js_nodes.specs.declared.context.Inside.{Inside}
+use Rattle.js_nodes.specs.declared.depth.Depth.{Depth}
+use Rattle.js_nodes.specs.declared.operand.Operand.{Operand}
+use Rattle.js_nodes.specs.declared.series.State.{State}
+use Rattle.js_nodes.specs.declared.series.Said.{Said}
+use Rattle.js_nodes.specs.declared.series.Series.{Series}
+use Rattle.js_nodes.specs.declared.series.Decls.{Decls}
+use Rattle.js_nodes.specs.declared.series.Cases.{Cases}
+use Rattle.js_nodes.specs.Next.{Next, place, shows, says, is_on_new_line}
+use Rattle.js_cursor.specs.Words.{R, deeper, sign, word, name}
+use Rattle.js_nodes.specs.Operands.{nothing, both, context, ends}
 use Rattle.js_parser.specs.Levels.{Level}
-use Rattle.js_parser.specs.Functions.{has, state, in_block}
-use Rattle.js_parser.specs.Primary.{operand_left_out}
-use Rattle.js_parser.specs.Expressions.{begins_operand}
+use Rattle.js_nodes.specs.Pieces.{state, said, series, decls, cases, once, declared, braces, before_else, turning, doing, choosing}
+use Rattle.js_cursor.specs.Questions.{in_block, thrown_left_out, in_case, is_case, label_flaw}
+use Rattle.js_cursor.specs.Rules.{semi, ended}
+use Rattle.js_lexer.specs.declared.token.Punct.TheVariants as p
+use Rattle.js_lexer.specs.declared.token.Word.TheVariants as w
+use Rattle.js_tree.specs.declared.stmt.Stmt.TheVariants as s
+use Rattle.js_nodes.specs.declared.context.Closer.TheVariants as c
 
 -- ---- what was read
 
--- a statement that begins here, over its parts
-abbrev pub said : Stmt → State → ℕ → Depth → Said
-said stmt added at depth = record { stmt = stmt; state = added; depth = raised at depth }
-
-abbrev pub series : List Stmt → State → Depth → Series
-series stmts added depth = record { stmts = stmts; state = added; depth = depth }
-
-abbrev pub decls : List Decl → State → Depth → Decls
-decls ds added depth = record { decls = ds; state = added; depth = depth }
-
-abbrev pub cases : List Case → State → Bool → Depth → Cases
-cases cs added has_default depth = record { cases = cs; state = added; has_default = has_default; depth = depth }
-
--- a name among others, once
-abbrev pub once : List (List ℕ) → List ℕ → List (List ℕ)
-once names n = cond (has names n) names (names ++ n ∷ [])
-
-abbrev pub declared : State → List ℕ → State
-declared added n = state added.codes (once added.vars n)
-
 -- ---- ends of statements
-
--- a semicolon, or where one is inserted (7.9.1)
-abbrev pub semi : R (Unit {0})
-semi = or (sign p.Semicolon >> done tt) (before inserted)
-
--- in a loop
-abbrev pub turning : Inside → Inside
-turning inside = record { function = inside.function; turning = true; leaving = true }
-
--- in a `switch`
-abbrev pub choosing : Inside → Inside
-choosing inside = record { function = inside.function; turning = inside.turning; leaving = true }
 
 -- ---- blocks
 
@@ -81,7 +45,7 @@ statements inside below added = again (λ _ t. in_block t) (series_more inside b
 -- Block, behind its `{`
 abbrev pub block : Inside → Level → State → R Series
 block inside below added = do
-  y ← statements inside below added
+  y ← statements (braces inside) below added
   sign p.RightBrace
   done y
 
@@ -122,10 +86,10 @@ variables room below x at n added = do
   d ← again (λ _ t. shows p.Comma t) (decl_more room below x) d
   done (said (s.Var d.decls) d.state at d.depth)
 
-unfoldable pub var_statement : ℕ → Level → State → Next → R Said
-var_statement room below added t = do
+unfoldable pub var_statement : ℕ → Level → Inside → State → Next → R Said
+var_statement room below inside added t = do
   n ← name
-  v ← variables room below (context c.Statement) (place t) n added
+  v ← variables room below (context (c.Statement inside.after)) (place t) n added
   semi
   done v
 
@@ -158,16 +122,20 @@ else_part below inside t test depth y = or
 unfoldable pub if_statement : Level → Inside → State → Next → R Said
 if_statement below inside added t = do
   x ← condition below added.codes
-  y ← below.statement inside (state x.codes added.vars)
+  y ← below.statement (before_else inside) (state x.codes added.vars)
   else_part below inside t x.value x.depth y
+
+-- the condition of a `do`, behind its body
+abbrev pub repeated : Level → Next → Said → R Said
+repeated below t y = do
+  x ← condition below y.state.codes
+  ended (s.DoWhile y.stmt x.value) (state x.codes y.state.vars) (place t) (both y.depth x.depth)
 
 unfoldable pub do_statement : Level → Inside → State → Next → R Said
 do_statement below inside added t = do
-  y ← below.statement (turning inside) added
+  y ← below.statement (doing inside) added
   word w.While
-  x ← condition below y.state.codes
-  semi
-  done (said (s.DoWhile y.stmt x.value) (state x.codes y.state.vars) (place t) (both y.depth x.depth))
+  repeated below t y
 
 unfoldable pub while_statement : Level → Inside → State → Next → R Said
 while_statement below inside added t = do
@@ -177,41 +145,22 @@ while_statement below inside added t = do
 
 -- ---- `continue`, `break`, `return` and `throw` (12.7 to 12.9 and 12.13)
 
--- A name behind them would be a label, which is left out.
-abbrev pub jump_label : Next → Option Fault
-jump_label u = cond (of is_identifier u && not (is_on_new_line u)) (Some (LeftOut (place u))) None
-
-unfoldable pub jump : Stmt → State → Next → R Said
-jump stmt added t = do
-  barred jump_label
-  semi
-  done (said stmt added (place t) nothing)
-
-unfoldable pub return_statement : Level → State → Next → R Said
-return_statement below added t = or
-    (semi >> done (said (s.Return None) added (place t) nothing))
+unfoldable pub return_statement : Level → Inside → State → Next → R Said
+return_statement below inside added t = or
+    (ended (s.Return None) added (place t) nothing)
     (do
       next (λ u. not (ends u))
-      x ← below.expr (context c.Statement) added.codes
-      semi
-      done (said (s.Return (Some x.value)) (state x.codes added.vars) (place t) x.depth))
+      x ← below.expr (context (c.Statement inside.after)) added.codes
+      ended (s.Return (Some x.value)) (state x.codes added.vars) (place t) x.depth)
 
-abbrev pub thrown_left_out : Next → Option Fault
-thrown_left_out u = cond (is_on_new_line u) (operand_left_out u) None
-
-unfoldable pub throw_statement : Level → State → Next → R Said
-throw_statement below added t = do
+unfoldable pub throw_statement : Level → Inside → State → Next → R Said
+throw_statement below inside added t = do
   barred thrown_left_out
   next (λ u. not (is_on_new_line u))
-  x ← below.expr (context c.Statement) added.codes
-  semi
-  done (said (s.Throw x.value) (state x.codes added.vars) (place t) x.depth)
+  x ← below.expr (context (c.Statement inside.after)) added.codes
+  ended (s.Throw x.value) (state x.codes added.vars) (place t) x.depth
 
 -- ---- `switch` (12.11)
-
--- It stands before the end of a part of a `switch`.
-abbrev pub in_case : Next → Bool
-in_case t = in_block t && (not (says w.Case t) && not (says w.Default t))
 
 -- a part behind its `:`
 unfoldable pub case_body : Level → Inside → Cases → Option Expr → R Cases
@@ -236,16 +185,21 @@ default_clause below inside y = do
 unfoldable pub case_part : Level → Inside → Cases → R Cases
 case_part below inside y = or (case_clause below inside y) (default_clause below inside y)
 
-abbrev pub is_case : Next → Bool
-is_case t = says w.Case t || says w.Default t
+unfoldable pub switch_cases : Level → Inside → State → R Cases
+switch_cases below inside added = again (λ _ u. is_case u) (case_part below inside) (cases [] added false nothing)
+
+-- the parts, and the `}` behind them
+abbrev pub switch_parts : Level → Inside → Next → Expr → Depth → State → R Said
+switch_parts below inside t test depth added = do
+  y ← switch_cases below inside added
+  sign p.RightBrace
+  done (said (s.Switch test y.cases) y.state (place t) (both depth y.depth))
 
 unfoldable pub switch_statement : Level → Inside → State → Next → R Said
 switch_statement below inside added t = do
   x ← condition below added.codes
   sign p.LeftBrace
-  y ← again (λ _ u. is_case u) (case_part below inside) (cases [] (state x.codes added.vars) false nothing)
-  sign p.RightBrace
-  done (said (s.Switch x.value y.cases) y.state (place t) (both x.depth y.depth))
+  switch_parts below inside t x.value x.depth (state x.codes added.vars)
 
 -- ---- `try` (12.14)
 
@@ -285,18 +239,8 @@ try_statement below inside added t = do
 
 -- ---- expression statements (12.4)
 
--- A `:` behind a name alone would make a label of it, which is left out.
-abbrev pub label_flaw : Operand → Next → Option Fault
-label_flaw x u = cond (is_bare_name x && shows p.Colon u) (Some (LeftOut x.at)) None
-
-unfoldable pub expression_statement : Level → State → R Said
-expression_statement below added = do
-  x ← below.expr (context c.Statement) added.codes
+unfoldable pub expression_statement : Level → Inside → State → R Said
+expression_statement below inside added = do
+  x ← below.expr (context (c.Statement inside.after)) added.codes
   barred (label_flaw x)
-  semi
-  done (said (s.Expr x.value) (state x.codes added.vars) x.at x.depth)
-
--- An expression statement begins so, or is at least begun by what is left out (12.4: neither with `{` nor with `function`).
-abbrev pub begins_statement : Next → Bool
-begins_statement t =
-    (begins_operand t || (of is_left_out_name t || of is_slash t)) && not (shows p.LeftBrace t || says w.Function t)
+  ended (s.Expr x.value) (state x.codes added.vars) x.at x.depth

@@ -3,291 +3,319 @@ ghost use Rattle.std.specs.Prelude.{◌≡◌, ◌≤◌, ◌<◌, ◌-◌, Some
 ghost use Rattle.grammar.specs.Grammar.{first};
 ghost use Rattle.grammar.specs.Reading.{read};
 ghost use Rattle.js_lexer.specs.declared.token.Word.TheVariants as w;
-ghost use Rattle.js_parser.specs.Next as ahead;
+ghost use Rattle.js_nodes.specs.Next as ahead;
 ghost use Rattle.js_parser.specs.Chains as chains;
 ghost use Rattle.js_parser.specs.Sources.{level};
-ghost use Rattle.js_parser.specs.Reads.{Reads};
+ghost use Rattle.js_cursor.specs.Reads.{Reads};
+ghost use Rattle.js_parser.specs.Nests.{Nests};
+ghost use Rattle.js_nodes.specs.Classes as classes;
 
-use crate::context::{Closer, Context};
-use crate::cursor::Parser;
-use crate::fault::{Fault, ParseError};
-use crate::kinds::member_text;
-use crate::nodes::{call_node, index_node, new_node};
-use crate::operand::{Operand, Row, node};
+use crate::rules::{Answer, Ask, Rules};
+use js_cursor::Cursor;
 use js_lexer::{Kind, Punct, Token, Word};
-use js_tree::{Expr, FnCode};
-use sqlite_items::{Boxed, Items};
+use js_nodes::nodes::{call_node, new_node};
+use js_nodes::{Closer, Context, Fault, Operand, ParseError, Row};
+use js_tree::FnCode;
+use sqlite_items::Items;
 
-impl<'a> Parser<'a> {
+impl<F: Fn(&mut Cursor<'_>, u8, Ask) -> Result<Answer, ParseError>> Rules<F> {
     /// Behind an argument: a comma and one more.
-    #[cycle(script)]
-    pub(crate) fn argument_more(&mut self, room: u8, row: Row) -> Result<Row, ParseError>
+    pub(crate) fn argument_more(
+        &self,
+        room: u8,
+        row: Row,
+        tokens: &mut Cursor<'_>,
+    ) -> Result<Row, ParseError>
+        requires nests { Nests (room - 1) (F.pre self.now.below) (F.post self.now.below) }
         requires few { room ≤ 128 }
         requires some { 0 < room }
         requires within { row.depth.height < room }
-        ensures value { Reads (read None (chains.argument_more (level (room - 1)) row) self.old) result self.new }
+        ensures value { Reads (read None (chains.argument_more (level (room - 1)) row) tokens.old) result tokens.new }
         ensures height { IfOk result (λ r. r.depth.height < room) }
     {
-        self.take(Punct::Comma)?;
-        self.item(Context::of(Closer::Paren), room, row)
+        tokens.take(Punct::Comma)?;
+        self.item(Context::of(Closer::Paren), room, row, tokens)
     }
 
-    #[cycle(script)]
     #[tactic(auto, unfolding(crate::specs::Chains::some_arguments))]
     pub(crate) fn some_arguments(
-        &mut self,
+        &self,
         room: u8,
         codes: Items<FnCode>,
+        tokens: &mut Cursor<'_>,
     ) -> Result<Row, ParseError>
+        requires nests { Nests (room - 1) (F.pre self.now.below) (F.post self.now.below) }
         requires few { room ≤ 128 }
         requires some { 0 < room }
-        ensures value { Reads (read None (chains.some_arguments (level (room - 1)) codes) self.old) result self.new }
+        ensures value { Reads (read None (chains.some_arguments (level (room - 1)) codes) tokens.old) result tokens.new }
         ensures height { IfOk result (λ r. r.depth.height < room) }
     {
         let mut row = self.item(
             Context::of(Closer::Paren),
             room,
-            Row::new(self.alloc(), codes),
+            Row::new(tokens.alloc(), codes),
+            tokens,
         )?;
-        'items: while self.at(Punct::Comma) {
-            row = self.argument_more(room, row)?;
+        'items: while tokens.at(Punct::Comma) {
+            row = self.argument_more(room, row, tokens)?;
         }
-        self.take(Punct::RightParen)?;
+        tokens.take(Punct::RightParen)?;
         Ok(row)
     }
 
     /// Arguments behind their `(`.
-    #[cycle(script)]
     #[tactic(auto, unfolding(crate::specs::Chains::arguments))]
-    pub(crate) fn arguments(&mut self, room: u8, codes: Items<FnCode>) -> Result<Row, ParseError>
+    pub(crate) fn arguments(
+        &self,
+        room: u8,
+        codes: Items<FnCode>,
+        tokens: &mut Cursor<'_>,
+    ) -> Result<Row, ParseError>
+        requires nests { Nests (room - 1) (F.pre self.now.below) (F.post self.now.below) }
         requires few { room ≤ 128 }
         requires some { 0 < room }
-        ensures value { Reads (read None (chains.arguments (level (room - 1)) codes) self.old) result self.new }
+        ensures value { Reads (read None (chains.arguments (level (room - 1)) codes) tokens.old) result tokens.new }
         ensures height { IfOk result (λ r. r.depth.height < room) }
     {
-        if self.at(Punct::RightParen) {
-            self.advance();
-            Ok(Row::new(self.alloc(), codes))
+        if tokens.at(Punct::RightParen) {
+            tokens.advance();
+            Ok(Row::new(tokens.alloc(), codes))
         } else {
-            self.some_arguments(room, codes)
+            self.some_arguments(room, codes, tokens)
         }
     }
 
-    /// A property behind its `.`.
-    pub(crate) fn member(&mut self, room: u8, x: Operand) -> Result<Operand, ParseError>
-        requires few { room ≤ 128 }
-        requires within { x.depth.height < room }
-        ensures value { Reads (read None (chains.member x) self.old) result self.new }
-        ensures height { IfOk result (λ y. y.depth.height ≤ room) }
-    {
-        let Some(token) = self.peek() else {
-            return Err(ParseError::Unfit);
-        };
-        let Some(name) = member_text(self.alloc(), &token.kind)? else {
-            return Err(ParseError::Unfit);
-        };
-        self.advance();
-        Ok(node(
-            Expr::Member(Boxed::new(self.alloc(), x.value)?, name),
-            x.codes,
-            x.at,
-            x.depth,
-        ))
-    }
-
     /// A property behind its `[`.
-    #[cycle(script)]
-    pub(crate) fn index(&mut self, room: u8, x: Operand) -> Result<Operand, ParseError>
+    pub(crate) fn index(
+        &self,
+        room: u8,
+        x: Operand,
+        tokens: &mut Cursor<'_>,
+    ) -> Result<Operand, ParseError>
+        requires nests { Nests (room - 1) (F.pre self.now.below) (F.post self.now.below) }
         requires few { room ≤ 128 }
         requires some { 0 < room }
         requires within { x.depth.height < room }
-        ensures value { Reads (read None (chains.index (level (room - 1)) x) self.old) result self.new }
+        ensures value { Reads (read None (chains.index (level (room - 1)) x) tokens.old) result tokens.new }
         ensures height { IfOk result (λ y. y.depth.height ≤ room) }
     {
-        let y = self.expr(Context::of(Closer::Bracket), room - 1, x.codes)?;
-        self.take(Punct::RightBracket)?;
-        Ok(index_node(self.alloc(), x.value, x.at, x.depth, y)?)
+        let y = self.expr_below(Context::of(Closer::Bracket), room - 1, x.codes, tokens)?;
+        tokens.indexed(x.value, x.at, x.depth, y)
     }
 
     /// A call behind its `(`.
-    #[cycle(script)]
-    pub(crate) fn call(&mut self, room: u8, x: Operand) -> Result<Operand, ParseError>
+    pub(crate) fn call(
+        &self,
+        room: u8,
+        x: Operand,
+        tokens: &mut Cursor<'_>,
+    ) -> Result<Operand, ParseError>
+        requires nests { Nests (room - 1) (F.pre self.now.below) (F.post self.now.below) }
         requires few { room ≤ 128 }
         requires some { 0 < room }
         requires within { x.depth.height < room }
-        ensures value { Reads (read None (chains.call (level (room - 1)) x) self.old) result self.new }
+        ensures value { Reads (read None (chains.call (level (room - 1)) x) tokens.old) result tokens.new }
         ensures height { IfOk result (λ y. y.depth.height ≤ room) }
     {
-        let row = self.arguments(room, x.codes)?;
-        Ok(call_node(self.alloc(), x.value, x.at, x.depth, row)?)
+        let row = self.arguments(room, x.codes, tokens)?;
+        Ok(call_node(tokens.alloc(), x.value, x.at, x.depth, row)?)
     }
 
     /// What goes on with this token, behind it.
-    #[cycle(script)]
     pub(crate) fn link_by(
-        &mut self,
+        &self,
         room: u8,
         x: Operand,
         token: &Token,
+        tokens: &mut Cursor<'_>,
     ) -> Result<Operand, ParseError>
+        requires nests { Nests (room - 1) (F.pre self.now.below) (F.post self.now.below) }
         requires few { room ≤ 128 }
         requires some { 0 < room }
         requires within { x.depth.height < room }
-        ensures value { Reads (read None (chains.link_by (level (room - 1)) x (Some token.now)) self.old) result self.new }
+        ensures value { Reads (read None (chains.link_by (level (room - 1)) x (Some token.now)) tokens.old) result tokens.new }
         ensures height { IfOk result (λ y. y.depth.height ≤ room) }
     {
         match &token.kind {
-            Kind::Punct(Punct::Dot) => self.member(room, x),
-            Kind::Punct(Punct::LeftBracket) => self.index(room, x),
-            _ => self.call(room, x),
+            Kind::Punct(Punct::Dot) => tokens.member(room, x),
+            Kind::Punct(Punct::LeftBracket) => self.index(room, x, tokens),
+            _ => self.call(room, x, tokens),
         }
     }
 
     /// One property more.
-    #[cycle(script)]
     #[tactic(auto, unfolding(crate::specs::Chains::link))]
-    pub(crate) fn access(&mut self, room: u8, x: Operand) -> Result<Operand, ParseError>
+    pub(crate) fn access(
+        &self,
+        room: u8,
+        x: Operand,
+        tokens: &mut Cursor<'_>,
+    ) -> Result<Operand, ParseError>
+        requires nests { Nests (room - 1) (F.pre self.now.below) (F.post self.now.below) }
         requires few { room ≤ 128 }
         requires some { 0 < room }
-        requires goes { ahead.of chains.is_access (first self.old None) ≡ true }
-        ensures value { Reads (read None (chains.link chains.is_access room (level (room - 1)) x) self.old) result self.new }
+        requires goes { ahead.of classes.is_access (first tokens.old None) ≡ true }
+        ensures value { Reads (read None (chains.link classes.is_access room (level (room - 1)) x) tokens.old) result tokens.new }
         ensures height { IfOk result (λ y. y.depth.height ≤ room) }
     {
-        let Some(token) = self.peek() else {
+        let Some(token) = tokens.peek() else {
             return Err(ParseError::Unfit);
         };
         match x.depth.level_flaw(room) {
             Some(fault) => Err(ParseError::Shown(fault)),
             None => {
-                self.advance();
-                self.link_by(room, x, token)
+                tokens.advance();
+                self.link_by(room, x, token, tokens)
             }
         }
     }
 
     /// One property or call more.
-    #[cycle(script)]
     #[tactic(auto, unfolding(crate::specs::Chains::link))]
-    pub(crate) fn link(&mut self, room: u8, x: Operand) -> Result<Operand, ParseError>
+    pub(crate) fn link(
+        &self,
+        room: u8,
+        x: Operand,
+        tokens: &mut Cursor<'_>,
+    ) -> Result<Operand, ParseError>
+        requires nests { Nests (room - 1) (F.pre self.now.below) (F.post self.now.below) }
         requires few { room ≤ 128 }
         requires some { 0 < room }
-        requires goes { ahead.of chains.is_link (first self.old None) ≡ true }
-        ensures value { Reads (read None (chains.link chains.is_link room (level (room - 1)) x) self.old) result self.new }
+        requires goes { ahead.of classes.is_link (first tokens.old None) ≡ true }
+        ensures value { Reads (read None (chains.link classes.is_link room (level (room - 1)) x) tokens.old) result tokens.new }
         ensures height { IfOk result (λ y. y.depth.height ≤ room) }
     {
-        let Some(token) = self.peek() else {
+        let Some(token) = tokens.peek() else {
             return Err(ParseError::Unfit);
         };
         match x.depth.level_flaw(room) {
             Some(fault) => Err(ParseError::Shown(fault)),
             None => {
-                self.advance();
-                self.link_by(room, x, token)
+                tokens.advance();
+                self.link_by(room, x, token, tokens)
             }
         }
     }
 
     /// The arguments of a `new`, if there are any.
-    #[cycle(script)]
     pub(crate) fn new_arguments(
-        &mut self,
+        &self,
         room: u8,
         codes: Items<FnCode>,
+        tokens: &mut Cursor<'_>,
     ) -> Result<Row, ParseError>
+        requires nests { Nests (room - 1) (F.pre self.now.below) (F.post self.now.below) }
         requires few { room ≤ 128 }
         requires some { 0 < room }
-        ensures value { Reads (read None (chains.new_arguments (level (room - 1)) codes) self.old) result self.new }
+        ensures value { Reads (read None (chains.new_arguments (level (room - 1)) codes) tokens.old) result tokens.new }
         ensures height { IfOk result (λ r. r.depth.height < room) }
     {
-        if self.at(Punct::LeftParen) {
-            self.advance();
-            self.arguments(room, codes)
+        if tokens.at(Punct::LeftParen) {
+            tokens.advance();
+            self.arguments(room, codes, tokens)
         } else {
-            Ok(Row::new(self.alloc(), codes))
+            Ok(Row::new(tokens.alloc(), codes))
         }
     }
 
-    #[cycle(script)]
     #[tactic(auto, unfolding(crate::specs::Chains::construction))]
     pub(crate) fn construction(
-        &mut self,
+        &self,
         room: u8,
         codes: Items<FnCode>,
+        tokens: &mut Cursor<'_>,
     ) -> Result<Operand, ParseError>
+        requires nests { Nests (room - 1) (F.pre self.now.below) (F.post self.now.below) }
         requires few { room ≤ 128 }
         requires some { 0 < room }
-        requires word { ahead.says w.New (first self.old None) ≡ true }
-        ensures value { Reads (read None (chains.construction room (level (room - 1)) codes) self.old) result self.new }
+        requires word { ahead.says w.New (first tokens.old None) ≡ true }
+        ensures value { Reads (read None (chains.construction room (level (room - 1)) codes) tokens.old) result tokens.new }
         ensures height { IfOk result (λ x. x.depth.height ≤ room) }
     {
-        let at = self.place();
+        let at = tokens.place();
         if room <= 1 {
             return Err(ParseError::Shown(Fault::Nesting(at)));
         }
-        self.advance();
-        let x = self.callee(room - 1, codes)?;
-        let row = self.new_arguments(room, x.codes)?;
-        Ok(new_node(self.alloc(), x.value, at, x.depth, row)?)
+        tokens.advance();
+        let x = self.callee_below(room - 1, codes, tokens)?;
+        let row = self.new_arguments(room, x.codes, tokens)?;
+        Ok(new_node(tokens.alloc(), x.value, at, x.depth, row)?)
     }
 
-    #[cycle(script)]
     #[tactic(auto, using(crate::proofs::DecidedMay::construction_may))]
-    pub(crate) fn head(&mut self, room: u8, codes: Items<FnCode>) -> Result<Operand, ParseError>
+    pub(crate) fn head(
+        &self,
+        room: u8,
+        codes: Items<FnCode>,
+        tokens: &mut Cursor<'_>,
+    ) -> Result<Operand, ParseError>
+        requires nests { Nests (room - 1) (F.pre self.now.below) (F.post self.now.below) }
         requires few { room ≤ 128 }
         requires some { 0 < room }
-        ensures value { Reads (read None (chains.head room (level (room - 1)) codes) self.old) result self.new }
+        ensures value { Reads (read None (chains.head room (level (room - 1)) codes) tokens.old) result tokens.new }
         ensures height { IfOk result (λ x. x.depth.height ≤ room) }
     {
-        if self.at_word(Word::New) {
-            self.construction(room, codes)
+        if tokens.at_word(Word::New) {
+            self.construction(room, codes, tokens)
         } else {
-            self.primary(room, codes)
+            self.primary(room, codes, tokens)
         }
     }
 
-    #[cycle(script)]
     #[tactic(auto, unfolding(crate::specs::Chains::callee))]
     pub(crate) fn callee_some(
-        &mut self,
+        &self,
         room: u8,
         codes: Items<FnCode>,
+        tokens: &mut Cursor<'_>,
     ) -> Result<Operand, ParseError>
+        requires nests { Nests (room - 1) (F.pre self.now.below) (F.post self.now.below) }
         requires few { room ≤ 128 }
         requires some { 0 < room }
-        ensures value { Reads (read None (chains.callee room (level (room - 1)) codes) self.old) result self.new }
+        ensures value { Reads (read None (chains.callee room (level (room - 1)) codes) tokens.old) result tokens.new }
         ensures height { IfOk result (λ x. x.depth.height ≤ room) }
     {
-        let mut x = self.head(room, codes)?;
-        'links: while self.at_access() {
-            x = self.access(room, x)?;
+        let mut x = self.head(room, codes, tokens)?;
+        'links: while tokens.at_access() {
+            x = self.access(room, x, tokens)?;
         }
         Ok(x)
     }
 
     /// What stands behind `new`, before its arguments.
-    #[cycle(script)]
-    pub(crate) fn callee(&mut self, room: u8, codes: Items<FnCode>) -> Result<Operand, ParseError>
+    pub(crate) fn callee(
+        &self,
+        room: u8,
+        codes: Items<FnCode>,
+        tokens: &mut Cursor<'_>,
+    ) -> Result<Operand, ParseError>
+        requires nests { 0 < room → Nests (room - 1) (F.pre self.now.below) (F.post self.now.below) }
         requires few { room ≤ 128 }
-        ensures value { Reads (read None ((level room).callee codes) self.old) result self.new }
+        ensures value { Reads (read None ((level room).callee codes) tokens.old) result tokens.new }
         ensures height { IfOk result (λ x. x.depth.height ≤ room) }
     {
         if room == 0 {
-            return Err(self.operand_too_deep());
+            return Err(tokens.operand_too_deep());
         }
-        self.callee_some(room, codes)
+        self.callee_some(room, codes, tokens)
     }
 
-    #[cycle(script)]
     #[tactic(auto, unfolding(crate::specs::Chains::left))]
-    pub(crate) fn left(&mut self, room: u8, codes: Items<FnCode>) -> Result<Operand, ParseError>
+    pub(crate) fn left(
+        &self,
+        room: u8,
+        codes: Items<FnCode>,
+        tokens: &mut Cursor<'_>,
+    ) -> Result<Operand, ParseError>
+        requires nests { Nests (room - 1) (F.pre self.now.below) (F.post self.now.below) }
         requires few { room ≤ 128 }
         requires some { 0 < room }
-        ensures value { Reads (read None (chains.left room (level (room - 1)) codes) self.old) result self.new }
+        ensures value { Reads (read None (chains.left room (level (room - 1)) codes) tokens.old) result tokens.new }
         ensures height { IfOk result (λ x. x.depth.height ≤ room) }
     {
-        let mut x = self.head(room, codes)?;
-        'links: while self.at_link() {
-            x = self.link(room, x)?;
+        let mut x = self.head(room, codes, tokens)?;
+        'links: while tokens.at_link() {
+            x = self.link(room, x, tokens)?;
         }
         Ok(x)
     }

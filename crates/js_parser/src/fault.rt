@@ -1,10 +1,10 @@
 //! What is wrong with a script.
 ghost use Rattle.std.specs.Prelude.{◌≡◌};
-ghost use Rattle.js_parser.specs.declared.fault.ParseError.TheVariants.{Memory};
 ghost use Rattle.js_parser.specs.declared.fault.ScriptFault.TheVariants.{NoMemory};
 ghost use Rattle.js_parser.specs.Faults as faults;
 
 use js_lexer::LexFault;
+use js_nodes::Fault;
 use std::alloc::AllocError;
 
 /// Why a script is none. Places are byte offsets in the source; the end's is the source's length.
@@ -50,35 +50,5 @@ impl ScriptFault {
             Fault::Nesting(at) => ScriptFault::Nesting(at),
             Fault::Syntax(at) => ScriptFault::Syntax(at),
         }
-    }
-}
-
-/// What a token that fits no rule shows, and where. Places are byte offsets in the source.
-#[derive(Clone, Copy, Debug, PartialEq, Eq)]
-pub(crate) enum Fault {
-    /// A form that is left out of the language.
-    LeftOut(u32),
-    /// A node of level 129.
-    Nesting(u32),
-    /// What else is wrong before the token, and is told by it.
-    Syntax(u32),
-}
-
-/// Why a rule reads nothing.
-#[derive(Debug, Drop)]
-pub(crate) enum ParseError {
-    /// The allocator refused.
-    Memory,
-    /// The next token fits no rule.
-    Unfit,
-    /// The next token shows this.
-    Shown(Fault),
-}
-
-impl From<AllocError> for ParseError {
-    ghost from_gives = { λ _ e. e ≡ Memory };
-
-    fn from(_error: AllocError) -> ParseError {
-        ParseError::Memory
     }
 }

@@ -3,21 +3,14 @@
 #![tactic(auto)]
 
 mod chains;
-mod context;
-mod cursor;
-mod depth;
 mod expressions;
 pub mod fault;
 mod functions;
 mod heads;
 mod jumps;
-mod kinds;
-mod nodes;
-mod operand;
-mod operators;
 mod primary;
+mod rules;
 pub mod script;
-mod series;
 mod sources;
 mod statements;
 

@@ -9,61 +9,62 @@ ghost use Rattle.js_parser.specs.declared.fault.ScriptFault.{ScriptFault};
 ghost use Rattle.js_parser.specs.Scripts as scripts;
 ghost use Rattle.js_parser.specs.Scripts.{IsProgram, TokensFaultAt, IsScript, ScriptFaultAt, Judged};
 ghost use Rattle.js_parser.specs.Sources as sources;
-ghost use Rattle.js_parser.specs.Reads.{Reads};
+ghost use Rattle.js_parser.specs.Sources.{level};
+ghost use Rattle.js_cursor.specs.Reads.{Reads};
 
-use crate::context::Inside;
-use crate::cursor::Parser;
-use crate::fault::{Fault, ParseError, ScriptFault};
-use crate::series::{Body, State};
-use js_lexer::{Kind, Token, Word, lex};
+use crate::fault::ScriptFault;
+use crate::rules::{Rules, below};
+use js_cursor::Cursor;
+use js_lexer::{Token, lex};
+use js_nodes::{Body, Inside, ParseError, State};
 use js_tree::Program;
 use sqlite_items::Items;
 use std::alloc::Global;
 
-impl<'a> Parser<'a> {
-    /// A whole program.
-    #[tactic(auto, unfolding(crate::specs::Sources::program))]
-    pub(crate) fn program(&mut self) -> Result<Program, ParseError>
-        ensures value { Reads (read None sources.program self.old) result self.new }
-        ensures over { OnOk result (first self.new None ≡ None) }
-    {
-        let mut body = Body::new(self.alloc(), Items::new(self.alloc()));
-        'sources: while self.peek().is_some() {
-            body = self.source(Inside::script(), 128, body)?;
-        }
-        let State { codes, vars } = body.state;
-        Ok(Program {
-            codes,
-            body: body.stmts,
-            vars,
-            funs: body.funs,
-        })
-    }
+/// A source element more of a body.
+fn element(
+    inside: Inside,
+    room: u8,
+    body: Body,
+    tokens: &mut Cursor<'_>,
+) -> Result<Body, ParseError>
+    requires few { room ≤ 128 }
+    requires within { body.depth.height ≤ room }
+    ensures value { Reads (read None ((level room).source inside body) tokens.old) result tokens.new }
+    ensures height { IfOk result (λ b. b.depth.height ≤ room) }
+{
+    Rules { below }.source_below(inside, room, body, tokens)
+}
 
-    /// What the next token shows where it fits no rule, or the end, which is at this byte.
-    fn misfit(&self, end: u32) -> Fault
-        ensures { result ≡ scripts.misfit end (first self.now None) }
-    {
-        match self.peek() {
-            Some(token) => match token.kind {
-                Kind::Word(Word::With | Word::Debugger) => Fault::LeftOut(token.at),
-                _ => Fault::Syntax(token.at),
-            },
-            None => Fault::Syntax(end),
-        }
+/// A whole program.
+#[tactic(auto, unfolding(crate::specs::Sources::program))]
+pub(crate) fn program(tokens: &mut Cursor<'_>) -> Result<Program, ParseError>
+    ensures value { Reads (read None sources.program tokens.old) result tokens.new }
+    ensures over { OnOk result (first tokens.new None ≡ None) }
+{
+    let mut body = Body::new(tokens.alloc(), Items::new(tokens.alloc()));
+    'sources: while tokens.peek().is_some() {
+        body = element(Inside::script(), 128, body, tokens)?;
     }
+    let State { codes, vars } = body.state;
+    Ok(Program {
+        codes,
+        body: body.stmts,
+        vars: vars.into_items(),
+        funs: body.funs,
+    })
 }
 
 /// The program of a script's tokens; its end is at this byte.
 fn parse_tokens(alloc: Global, tokens: &[Token], end: u32) -> Result<Program, ScriptFault>
     ensures { Judged (IsProgram tokens.now) (TokensFaultAt end tokens.now) result }
 {
-    let mut parser = Parser::new(alloc, tokens);
-    match parser.program() {
+    let mut tokens = Cursor::new(alloc, tokens);
+    match program(&mut tokens) {
         Ok(program) => Ok(program),
         Err(ParseError::Memory) => Err(ScriptFault::NoMemory),
         Err(ParseError::Shown(fault)) => Err(ScriptFault::of(fault)),
-        Err(ParseError::Unfit) => Err(ScriptFault::of(parser.misfit(end))),
+        Err(ParseError::Unfit) => Err(ScriptFault::of(tokens.misfit(end))),
     }
 }
 

@@ -3,152 +3,122 @@ ghost use Rattle.std.specs.Prelude.{◌≡◌, ◌≤◌, ◌<◌, ◌-◌, [], 
 ghost use Rattle.grammar.specs.Grammar.{first};
 ghost use Rattle.grammar.specs.Reading.{read};
 ghost use Rattle.js_lexer.specs.declared.token.Word.TheVariants as w;
-ghost use Rattle.js_parser.specs.Next as ahead;
-ghost use Rattle.js_parser.specs.Operands as operands;
+ghost use Rattle.js_nodes.specs.Next as ahead;
+ghost use Rattle.js_nodes.specs.Operands as operands;
 ghost use Rattle.js_parser.specs.Functions as functions;
 ghost use Rattle.js_parser.specs.Statements as statements;
 ghost use Rattle.js_parser.specs.Sources.{level};
-ghost use Rattle.js_parser.specs.Reads.{Reads};
+ghost use Rattle.js_cursor.specs.Reads.{Reads};
+ghost use Rattle.js_parser.specs.Nests.{Nests};
 
-use crate::context::{Closer, Context, Inside};
-use crate::cursor::Parser;
-use crate::depth::{Depth, NOTHING};
-use crate::fault::{Fault, ParseError};
-use crate::functions::has;
-use crate::nodes::{Declared, more_decls, more_stmts};
-use crate::operand::Operand;
-use crate::series::{Decls, Said, Series, State, stmt_node};
-use js_lexer::{Kind, Punct, Token, Word};
-use js_tree::{Case, Decl, Expr, FnCode, Handler, Stmt};
-use page_units::{NoMemory, Text};
-use sqlite_items::{Boxed, Items};
+use crate::rules::{Answer, Ask, Rules};
+use js_cursor::Cursor;
+use js_lexer::{Punct, Token, Word};
+use js_nodes::nodes::{Declared, more_decls, more_stmts};
+use js_nodes::{
+    Closer, Context, Decls, Depth, Fault, Inside, NOTHING, Operand, ParseError, Said, Series,
+    State, stmt_node,
+};
+use js_tree::{Expr, FnCode, Stmt};
+use page_units::Text;
+use sqlite_items::Items;
 
-/// Puts a name among others, once.
-fn put_once(names: &mut Items<Text>, name: Text) -> Result<(), NoMemory>
-    ensures { OnOk result (names.new ≡ statements.once names.old name) }
-{
-    if !has(names.as_slice(), &name) {
-        names.push(name)?;
-    }
-    Ok(())
-}
-
-impl State {
-    /// With a name that `var` declares.
-    pub(crate) fn declare(self, name: &Text) -> Result<State, NoMemory>
-        ensures { IfOk result (λ s. s ≡ statements.declared self name.now) }
-    {
-        let State { codes, mut vars } = self;
-        put_once(&mut vars, name.clone()?)?;
-        Ok(State { codes, vars })
-    }
-}
-
-impl<'a> Parser<'a> {
-    /// A semicolon, or none where one is inserted.
-    pub(crate) fn semicolon(&mut self) -> Result<(), ParseError>
-        ensures { Reads (read None statements.semi self.old) result self.new }
-    {
-        if self.at(Punct::Semicolon) {
-            self.advance();
-            Ok(())
-        } else if self.inserts() {
-            Ok(())
-        } else {
-            Err(ParseError::Unfit)
-        }
-    }
-
+impl<F: Fn(&mut Cursor<'_>, u8, Ask) -> Result<Answer, ParseError>> Rules<F> {
     /// One statement more.
-    #[cycle(script)]
     pub(crate) fn series_more(
-        &mut self,
+        &self,
         inside: Inside,
         room: u8,
         series: Series,
+        tokens: &mut Cursor<'_>,
     ) -> Result<Series, ParseError>
+        requires nests { Nests (room - 1) (F.pre self.now.below) (F.post self.now.below) }
         requires few { room ≤ 128 }
         requires some { 0 < room }
         requires within { series.depth.height < room }
-        ensures value { Reads (read None (statements.series_more inside (level (room - 1)) series) self.old) result self.new }
+        ensures value { Reads (read None (statements.series_more inside (level (room - 1)) series) tokens.old) result tokens.new }
         ensures height { IfOk result (λ y. y.depth.height < room) }
     {
-        let x = self.statement(inside, room - 1, series.state)?;
+        let x = self.statement_below(inside, room - 1, series.state, tokens)?;
         Ok(more_stmts(series.stmts, series.depth, x)?)
     }
 
-    #[cycle(script)]
     #[tactic(auto, unfolding(crate::specs::Statements::statements))]
     pub(crate) fn statements(
-        &mut self,
+        &self,
         inside: Inside,
         room: u8,
         state: State,
+        tokens: &mut Cursor<'_>,
     ) -> Result<Series, ParseError>
+        requires nests { Nests (room - 1) (F.pre self.now.below) (F.post self.now.below) }
         requires few { room ≤ 128 }
         requires some { 0 < room }
-        ensures value { Reads (read None (statements.statements inside (level (room - 1)) state) self.old) result self.new }
+        ensures value { Reads (read None (statements.statements inside (level (room - 1)) state) tokens.old) result tokens.new }
         ensures height { IfOk result (λ y. y.depth.height < room) }
     {
-        let mut series = Series::new(self.alloc(), state);
-        'statements: while self.in_block() {
-            series = self.series_more(inside, room, series)?;
+        let mut series = Series::new(tokens.alloc(), state);
+        'statements: while tokens.in_block() {
+            series = self.series_more(inside, room, series, tokens)?;
         }
         Ok(series)
     }
 
     /// A block behind its `{`.
-    #[cycle(script)]
     pub(crate) fn block(
-        &mut self,
+        &self,
         inside: Inside,
         room: u8,
         state: State,
+        tokens: &mut Cursor<'_>,
     ) -> Result<Series, ParseError>
+        requires nests { Nests (room - 1) (F.pre self.now.below) (F.post self.now.below) }
         requires few { room ≤ 128 }
         requires some { 0 < room }
-        ensures value { Reads (read None (statements.block inside (level (room - 1)) state) self.old) result self.new }
+        ensures value { Reads (read None (statements.block inside (level (room - 1)) state) tokens.old) result tokens.new }
         ensures height { IfOk result (λ y. y.depth.height < room) }
     {
-        let series = self.statements(inside, room, state)?;
-        self.take(Punct::RightBrace)?;
+        let series = self.statements(inside.in_braces(), room, state, tokens)?;
+        tokens.take(Punct::RightBrace)?;
         Ok(series)
     }
 
     /// A block.
-    #[cycle(script)]
     pub(crate) fn braced(
-        &mut self,
+        &self,
         inside: Inside,
         room: u8,
         state: State,
+        tokens: &mut Cursor<'_>,
     ) -> Result<Series, ParseError>
+        requires nests { Nests (room - 1) (F.pre self.now.below) (F.post self.now.below) }
         requires few { room ≤ 128 }
         requires some { 0 < room }
-        ensures value { Reads (read None (statements.braced inside (level (room - 1)) state) self.old) result self.new }
+        ensures value { Reads (read None (statements.braced inside (level (room - 1)) state) tokens.old) result tokens.new }
         ensures height { IfOk result (λ y. y.depth.height < room) }
     {
-        self.take(Punct::LeftBrace)?;
-        self.block(inside, room, state)
+        tokens.take(Punct::LeftBrace)?;
+        self.block(inside, room, state, tokens)
     }
 
-    #[cycle(script)]
     #[tactic(auto, unfolding(crate::specs::Statements::block_statement))]
     pub(crate) fn block_statement(
-        &mut self,
+        &self,
         inside: Inside,
         room: u8,
         state: State,
         token: &Token,
+        tokens: &mut Cursor<'_>,
     ) -> Result<Said, ParseError>
+        requires nests { Nests (room - 1) (F.pre self.now.below) (F.post self.now.below) }
         requires few { room ≤ 128 }
         requires some { 0 < room }
-        ensures value { Reads (read None (statements.block_statement (level (room - 1)) inside state (Some token.now)) self.old) result self.new }
+        ensures value { Reads (read None (statements.block_statement (level (room - 1)) inside state (Some token.now)) tokens.old) result tokens.new }
         ensures height { IfOk result (λ x. x.depth.height ≤ room) }
     {
-        let series = self.block(inside, room, state)?;
+        let series = self.block(inside, room, state, tokens)?;
         Ok(stmt_node(
-            self.alloc(),
+            tokens.alloc(),
             Stmt::Block(series.stmts),
             series.state,
             token.at,
@@ -157,21 +127,22 @@ impl<'a> Parser<'a> {
     }
 
     /// A declaration behind its name.
-    #[cycle(script)]
     pub(crate) fn initial(
-        &mut self,
+        &self,
         context: Context,
         room: u8,
         name: Text,
         decls: Decls,
+        tokens: &mut Cursor<'_>,
     ) -> Result<Decls, ParseError>
+        requires nests { Nests (room - 1) (F.pre self.now.below) (F.post self.now.below) }
         requires few { room ≤ 128 }
         requires some { 0 < room }
         requires within { decls.depth.height < room }
-        ensures value { Reads (read None (statements.initial room (level (room - 1)) context name decls) self.old) result self.new }
+        ensures value { Reads (read None (statements.initial room (level (room - 1)) context name decls) tokens.old) result tokens.new }
         ensures height { IfOk result (λ d. d.depth.height < room) }
     {
-        if !self.at(Punct::Assign) {
+        if !tokens.at(Punct::Assign) {
             let decl = Declared {
                 name,
                 value: None,
@@ -180,11 +151,11 @@ impl<'a> Parser<'a> {
             return Ok(more_decls(decls.decls, decls.depth, decl, decls.state)?);
         }
         if room <= 1 {
-            return Err(ParseError::Shown(Fault::Nesting(self.place())));
+            return Err(ParseError::Shown(Fault::Nesting(tokens.place())));
         }
-        self.advance();
+        tokens.advance();
         let State { codes, vars } = decls.state;
-        let y = self.assign(context, room - 1, codes)?;
+        let y = self.assign_below(context, room - 1, codes, tokens)?;
         let state = State {
             codes: y.codes,
             vars,
@@ -198,46 +169,54 @@ impl<'a> Parser<'a> {
     }
 
     /// A comma and one declaration more.
-    #[cycle(script)]
     #[tactic(auto, unfolding(crate::specs::Statements::decl_more))]
     pub(crate) fn decl_more(
-        &mut self,
+        &self,
         context: Context,
         room: u8,
         decls: Decls,
+        tokens: &mut Cursor<'_>,
     ) -> Result<Decls, ParseError>
+        requires nests { Nests (room - 1) (F.pre self.now.below) (F.post self.now.below) }
         requires few { room ≤ 128 }
         requires some { 0 < room }
         requires within { decls.depth.height < room }
-        ensures value { Reads (read None (statements.decl_more room (level (room - 1)) context decls) self.old) result self.new }
+        ensures value { Reads (read None (statements.decl_more room (level (room - 1)) context decls) tokens.old) result tokens.new }
         ensures height { IfOk result (λ d. d.depth.height < room) }
     {
-        self.take(Punct::Comma)?;
-        let name = self.name()?;
-        self.initial(context, room, name, decls)
+        tokens.take(Punct::Comma)?;
+        let name = tokens.name()?;
+        self.initial(context, room, name, decls, tokens)
     }
 
-    #[cycle(script)]
     #[tactic(auto, unfolding(crate::specs::Statements::variables))]
     pub(crate) fn variables_some(
-        &mut self,
+        &self,
         context: Context,
         room: u8,
         at: u32,
         name: Text,
         state: State,
+        tokens: &mut Cursor<'_>,
     ) -> Result<Said, ParseError>
+        requires nests { Nests (room - 1) (F.pre self.now.below) (F.post self.now.below) }
         requires few { room ≤ 128 }
         requires some { 0 < room }
-        ensures value { Reads (read None (statements.variables room (level (room - 1)) context at name state) self.old) result self.new }
+        ensures value { Reads (read None (statements.variables room (level (room - 1)) context at name state) tokens.old) result tokens.new }
         ensures height { IfOk result (λ x. x.depth.height ≤ room) }
     {
-        let mut decls = self.initial(context, room, name, Decls::new(self.alloc(), state))?;
-        'decls: while self.at(Punct::Comma) {
-            decls = self.decl_more(context, room, decls)?;
+        let mut decls = self.initial(
+            context,
+            room,
+            name,
+            Decls::new(tokens.alloc(), state),
+            tokens,
+        )?;
+        'decls: while tokens.at(Punct::Comma) {
+            decls = self.decl_more(context, room, decls, tokens)?;
         }
         Ok(stmt_node(
-            self.alloc(),
+            tokens.alloc(),
             Stmt::Var(decls.decls),
             decls.state,
             at,
@@ -246,86 +225,106 @@ impl<'a> Parser<'a> {
     }
 
     /// The declarations of a `var` that stands here, behind the first name.
-    #[cycle(script)]
     pub(crate) fn variables(
-        &mut self,
+        &self,
         context: Context,
         room: u8,
         at: u32,
         name: Text,
         state: State,
+        tokens: &mut Cursor<'_>,
     ) -> Result<Said, ParseError>
+        requires nests { 0 < room → Nests (room - 1) (F.pre self.now.below) (F.post self.now.below) }
         requires few { room ≤ 128 }
-        ensures value { Reads (read None ((level room).variables context at name state) self.old) result self.new }
+        ensures value { Reads (read None ((level room).variables context at name state) tokens.old) result tokens.new }
         ensures height { IfOk result (λ x. x.depth.height ≤ room) }
     {
         if room == 0 {
-            return Err(self.operand_too_deep());
+            return Err(tokens.operand_too_deep());
         }
-        self.variables_some(context, room, at, name, state)
+        self.variables_some(context, room, at, name, state, tokens)
     }
 
-    #[cycle(script)]
     #[tactic(auto, unfolding(crate::specs::Statements::var_statement))]
     pub(crate) fn var_statement(
-        &mut self,
+        &self,
+        inside: Inside,
         room: u8,
         state: State,
         token: &Token,
+        tokens: &mut Cursor<'_>,
     ) -> Result<Said, ParseError>
+        requires nests { Nests (room - 1) (F.pre self.now.below) (F.post self.now.below) }
         requires few { room ≤ 128 }
         requires some { 0 < room }
-        ensures value { Reads (read None (statements.var_statement room (level (room - 1)) state (Some token.now)) self.old) result self.new }
+        ensures value { Reads (read None (statements.var_statement room (level (room - 1)) inside state (Some token.now)) tokens.old) result tokens.new }
         ensures height { IfOk result (λ x. x.depth.height ≤ room) }
     {
-        let name = self.name()?;
-        let x = self.variables_some(Context::of(Closer::Statement), room, token.at, name, state)?;
-        self.semicolon()?;
+        let name = tokens.name()?;
+        let x = self.variables_some(
+            Context::of(Closer::Statement(inside.after)),
+            room,
+            token.at,
+            name,
+            state,
+            tokens,
+        )?;
+        tokens.semicolon()?;
         Ok(x)
     }
 
     /// An expression in parentheses.
-    #[cycle(script)]
     pub(crate) fn condition(
-        &mut self,
+        &self,
         room: u8,
         codes: Items<FnCode>,
+        tokens: &mut Cursor<'_>,
     ) -> Result<Operand, ParseError>
+        requires nests { Nests (room - 1) (F.pre self.now.below) (F.post self.now.below) }
         requires few { room ≤ 128 }
         requires some { 0 < room }
-        ensures value { Reads (read None (statements.condition (level (room - 1)) codes) self.old) result self.new }
+        ensures value { Reads (read None (statements.condition (level (room - 1)) codes) tokens.old) result tokens.new }
         ensures height { IfOk result (λ x. x.depth.height < room) }
     {
-        self.take(Punct::LeftParen)?;
-        let x = self.expr(Context::of(Closer::Paren), room - 1, codes)?;
-        self.take(Punct::RightParen)?;
+        tokens.take(Punct::LeftParen)?;
+        let x = self.expr_below(Context::of(Closer::Paren), room - 1, codes, tokens)?;
+        tokens.take(Punct::RightParen)?;
         Ok(x)
     }
 
     /// An `else`, if there is one, behind the condition and what stands before it.
-    #[cycle(script)]
     pub(crate) fn else_part(
-        &mut self,
+        &self,
         inside: Inside,
         room: u8,
         token: &Token,
         test: Expr,
         depth: Depth,
         then: Said,
+        tokens: &mut Cursor<'_>,
     ) -> Result<Said, ParseError>
+        requires nests { Nests (room - 1) (F.pre self.now.below) (F.post self.now.below) }
         requires few { room ≤ 128 }
         requires some { 0 < room }
         requires within { depth.height < room }
         requires before { then.depth.height < room }
-        ensures value { Reads (read None (statements.else_part (level (room - 1)) inside (Some token.now) test depth then) self.old) result self.new }
+        ensures value { Reads (read None (statements.else_part (level (room - 1)) inside (Some token.now) test depth then) tokens.old) result tokens.new }
         ensures height { IfOk result (λ x. x.depth.height ≤ room) }
     {
-        if self.at_word(Word::Else) {
-            self.advance();
-            return self.other_part(inside, room, token, test, depth.both(then.depth), then);
+        if tokens.at_word(Word::Else) {
+            tokens.advance();
+            return self.other_part(
+                inside,
+                room,
+                token,
+                test,
+                depth.both(then.depth),
+                then,
+                tokens,
+            );
         }
         Ok(stmt_node(
-            self.alloc(),
+            tokens.alloc(),
             Stmt::If(test, then.stmt, None),
             then.state,
             token.at,
@@ -334,25 +333,26 @@ impl<'a> Parser<'a> {
     }
 
     /// An `else` behind its word, with the levels of all that stands before it.
-    #[cycle(script)]
     pub(crate) fn other_part(
-        &mut self,
+        &self,
         inside: Inside,
         room: u8,
         token: &Token,
         test: Expr,
         depth: Depth,
         then: Said,
+        tokens: &mut Cursor<'_>,
     ) -> Result<Said, ParseError>
+        requires nests { Nests (room - 1) (F.pre self.now.below) (F.post self.now.below) }
         requires few { room ≤ 128 }
         requires some { 0 < room }
         requires within { depth.height < room }
-        ensures value { Reads (read None (statements.other_part (level (room - 1)) inside (Some token.now) test depth then) self.old) result self.new }
+        ensures value { Reads (read None (statements.other_part (level (room - 1)) inside (Some token.now) test depth then) tokens.old) result tokens.new }
         ensures height { IfOk result (λ x. x.depth.height ≤ room) }
     {
-        let other = self.statement(inside, room - 1, then.state)?;
+        let other = self.statement_below(inside, room - 1, then.state, tokens)?;
         Ok(stmt_node(
-            self.alloc(),
+            tokens.alloc(),
             Stmt::If(test, then.stmt, Some(other.stmt)),
             other.state,
             token.at,
@@ -360,85 +360,104 @@ impl<'a> Parser<'a> {
         )?)
     }
 
-    #[cycle(script)]
     #[tactic(auto, unfolding(crate::specs::Statements::if_statement))]
     pub(crate) fn if_statement(
-        &mut self,
+        &self,
         inside: Inside,
         room: u8,
         state: State,
         token: &Token,
+        tokens: &mut Cursor<'_>,
     ) -> Result<Said, ParseError>
+        requires nests { Nests (room - 1) (F.pre self.now.below) (F.post self.now.below) }
         requires few { room ≤ 128 }
         requires some { 0 < room }
-        ensures value { Reads (read None (statements.if_statement (level (room - 1)) inside state (Some token.now)) self.old) result self.new }
+        ensures value { Reads (read None (statements.if_statement (level (room - 1)) inside state (Some token.now)) tokens.old) result tokens.new }
         ensures height { IfOk result (λ x. x.depth.height ≤ room) }
     {
         let State { codes, vars } = state;
-        let x = self.condition(room, codes)?;
+        let x = self.condition(room, codes, tokens)?;
         let state = State {
             codes: x.codes,
             vars,
         };
-        let y = self.statement(inside, room - 1, state)?;
-        self.else_part(inside, room, token, x.value, x.depth, y)
+        let y = self.statement_below(inside.before_else(), room - 1, state, tokens)?;
+        self.else_part(inside, room, token, x.value, x.depth, y, tokens)
     }
 
-    #[cycle(script)]
     #[tactic(auto, unfolding(crate::specs::Statements::do_statement))]
     pub(crate) fn do_statement(
-        &mut self,
+        &self,
         inside: Inside,
         room: u8,
         state: State,
         token: &Token,
+        tokens: &mut Cursor<'_>,
     ) -> Result<Said, ParseError>
+        requires nests { Nests (room - 1) (F.pre self.now.below) (F.post self.now.below) }
         requires few { room ≤ 128 }
         requires some { 0 < room }
-        ensures value { Reads (read None (statements.do_statement (level (room - 1)) inside state (Some token.now)) self.old) result self.new }
+        ensures value { Reads (read None (statements.do_statement (level (room - 1)) inside state (Some token.now)) tokens.old) result tokens.new }
         ensures height { IfOk result (λ x. x.depth.height ≤ room) }
     {
-        let y = self.statement(inside.in_loop(), room - 1, state)?;
-        self.take_word(Word::While)?;
-        let State { codes, vars } = y.state;
-        let x = self.condition(room, codes)?;
-        self.semicolon()?;
+        let y = self.statement_below(inside.in_do(), room - 1, state, tokens)?;
+        tokens.take_word(Word::While)?;
+        self.repeated(room, token, y, tokens)
+    }
+
+    /// The condition of a `do`, behind its body.
+    fn repeated(
+        &self,
+        room: u8,
+        token: &Token,
+        body: Said,
+        tokens: &mut Cursor<'_>,
+    ) -> Result<Said, ParseError>
+        requires nests { Nests (room - 1) (F.pre self.now.below) (F.post self.now.below) }
+        requires few { room ≤ 128 }
+        requires some { 0 < room }
+        requires within { body.depth.height < room }
+        ensures value { Reads (read None (statements.repeated (level (room - 1)) (Some token.now) body) tokens.old) result tokens.new }
+        ensures height { IfOk result (λ x. x.depth.height ≤ room) }
+    {
+        let State { codes, vars } = body.state;
+        let x = self.condition(room, codes, tokens)?;
         let state = State {
             codes: x.codes,
             vars,
         };
-        Ok(stmt_node(
-            self.alloc(),
-            Stmt::DoWhile(y.stmt, x.value),
+        tokens.ended(
+            Stmt::DoWhile(body.stmt, x.value),
             state,
             token.at,
-            y.depth.both(x.depth),
-        )?)
+            body.depth.both(x.depth),
+        )
     }
 
-    #[cycle(script)]
     #[tactic(auto, unfolding(crate::specs::Statements::while_statement))]
     pub(crate) fn while_statement(
-        &mut self,
+        &self,
         inside: Inside,
         room: u8,
         state: State,
         token: &Token,
+        tokens: &mut Cursor<'_>,
     ) -> Result<Said, ParseError>
+        requires nests { Nests (room - 1) (F.pre self.now.below) (F.post self.now.below) }
         requires few { room ≤ 128 }
         requires some { 0 < room }
-        ensures value { Reads (read None (statements.while_statement (level (room - 1)) inside state (Some token.now)) self.old) result self.new }
+        ensures value { Reads (read None (statements.while_statement (level (room - 1)) inside state (Some token.now)) tokens.old) result tokens.new }
         ensures height { IfOk result (λ x. x.depth.height ≤ room) }
     {
         let State { codes, vars } = state;
-        let x = self.condition(room, codes)?;
+        let x = self.condition(room, codes, tokens)?;
         let state = State {
             codes: x.codes,
             vars,
         };
-        let y = self.statement(inside.in_loop(), room - 1, state)?;
+        let y = self.statement_below(inside.in_loop(), room - 1, state, tokens)?;
         Ok(stmt_node(
-            self.alloc(),
+            tokens.alloc(),
             Stmt::While(x.value, y.stmt),
             y.state,
             token.at,

@@ -185,3 +185,51 @@ fn faults_before_the_token_have_their_places(rt: HostRuntime) -> Result<(), Fail
     }
     Ok(())
 }
+
+// Behind an operand that is wrong, where a semicolon may be inserted: the operand is told by a token that may follow the
+// statement, and by no other.
+#[test]
+fn a_wrong_operand_yields_to_what_may_not_follow_its_statement(
+    rt: HostRuntime,
+) -> Result<(), Fail> {
+    let rows = [
+        // in a script: statements, declarations and the end
+        ("delete a\nb", 7u32),
+        ("delete a\nfunction f(){}", 7),
+        ("while (x) ++1", 12),
+        ("while (x) ++1\n}", 14),
+        ("delete a }", 9),
+        ("delete a\n)", 9),
+        ("delete a\nelse", 9),
+        ("delete a\nclass", 9),
+        // in a block: statements and its `}`
+        ("{ delete a }", 9),
+        ("{ delete a\nb }", 9),
+        ("{ delete a", 10),
+        ("{ delete a\nfunction f(){} }", 11),
+        ("{ delete a\ncase 1: }", 11),
+        ("if (x) { delete a\nelse b }", 18),
+        // in a function's body: its declarations too
+        ("function f() { delete a\nfunction g(){} }", 22),
+        ("function f() { delete a", 23),
+        // in a part of a `switch`: the next part
+        ("switch (x) { case 1: delete a\ncase 2: }", 28),
+        ("switch (x) { case 1: delete a\ndefault: }", 28),
+        // in the first part of an `if`: its `else`, and what may follow the `if`
+        ("if (x) delete a\nelse b", 14),
+        ("if (x) delete a\nb", 14),
+        ("if (x) while (y) delete a\nelse b", 24),
+        ("if (x) b; else delete a\nelse c", 24),
+        // in the body of a `do`: its `while` alone
+        ("do delete a\nwhile (b)", 10),
+        ("do delete a\nb", 12),
+        ("do delete a\neval", 12),
+        ("do ++1", 6),
+        ("do if (x) delete a\nelse b; while (c)", 17),
+    ];
+    for (source, at) in rows {
+        let fault = fault_of(&rt, rt.alloc(), source);
+        assert_eq!(rt; fault, Some(ScriptFault::Syntax(at)), "{source}");
+    }
+    Ok(())
+}

@@ -55,6 +55,15 @@ fn forms_are_left_out_at_their_places(rt: HostRuntime) -> Result<(), Fail> {
         ("for (var eval in a) ;", 9),
         ("throw\neval", 6),
         ("eval: 1", 0),
+        // behind an operand that is wrong, where a semicolon may be inserted
+        ("delete a\nwith (b) ;", 9),
+        ("delete a\neval", 9),
+        ("++1\ndebugger", 4),
+        ("x = ++1\narguments = 2", 8),
+        ("var y = delete z\ndebugger;", 17),
+        ("throw delete a\nwith (b) c", 15),
+        ("{ delete a\neval }", 11),
+        ("function f() { return delete a\neval }", 31),
     ];
     for (source, at) in rows {
         let fault = fault_of(&rt, rt.alloc(), source);

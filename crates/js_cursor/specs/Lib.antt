@@ -1,0 +1,4 @@
+pub mod Words
+pub mod Reads
+pub mod Questions
+pub mod Rules

@@ -1,5 +1,0 @@
-use Rattle.js_parser.proofs.Signs.{sign_told}
-use Rattle.js_parser.proofs.cursor.same_sign.Goals as goal
-
-pub returns : goal.returns
-returns c = sign_told c.is_sign.result c.args.a c.args.b c.is_sign.ensures

@@ -1,5 +1,0 @@
-use Rattle.js_parser.proofs.Signs.{word_told}
-use Rattle.js_parser.proofs.cursor.same_word.Goals as goal
-
-pub returns : goal.returns
-returns c = word_told c.is_word.result c.args.a c.args.b c.is_word.ensures

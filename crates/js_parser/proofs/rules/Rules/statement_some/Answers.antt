@@ -1,0 +1,7 @@
+use Rattle.std.proofs.Common.{◌-◌}
+use Rattle.js_parser.specs.Sources.{level}
+use Rattle.js_parser.proofs.LevelsRead.{no_statement}
+use Rattle.js_parser.proofs.rules.Rules.statement_some.Goals as goal
+
+pub returns-in_default-clause-value : goal.returns-in_default-clause-value
+returns-in_default-clause-value g c = no_statement c.args.room (level (c.args.room - 1)) c.args.inside c.args.state c.args.tokens.now (cc)
