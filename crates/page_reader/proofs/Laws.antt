@@ -1,10 +1,8 @@
 -- Laws of pages: what begins no page is the front of none, and no bytes show two faults or are a page with one.
-use Rattle.std.proofs.Common.{◌≡◌, ◌<◌, ◌≤◌, ℕ, inl, inr, List, [], ◌∷◌, ◌++◌, length, Some, refl, sym, ap, subst, ◌∙◌, arith}
-use Rattle.std.specs.Prelude.{IsUtf8}
+use Rattle.std.proofs.Common.{◌≡◌, ℕ, inl, inr, List, [], ◌∷◌, ◌++◌, Some, sym, ap, subst, ◌∙◌, arith}
 use Rattle.std.specs.Str.{chars}
 use Rattle.dom_tree.specs.Trees.{Trees}
 use Rattle.grammar.specs.Grammar.{Derives}
-use Rattle.grammar.specs.Reading.{Bad, read}
 use Rattle.grammar.proofs.Reader.{continued, only, only_bad}
 use Rattle.placed_chars.specs.declared.chars.Char.{Char}
 use Rattle.placed_chars.specs.Chars.{placed, stop}
@@ -14,7 +12,7 @@ use Rattle.page_reader.specs.Faults.{rule_number}
 use Rattle.page_reader.specs.NodeTrees.{trees_of}
 use Rattle.page_reader.specs.Content.{Found, found}
 use Rattle.page_reader.specs.PageForm.{page}
-use Rattle.page_reader.specs.Page.{IsPage, IsPageFault, BeginsPage, Breaks, HasFault, page_bytes, levels_below, numbered}
+use Rattle.page_reader.specs.Page.{IsPage, IsPageFault, BeginsPage, Breaks, HasFault, levels_below, numbered}
 use Rattle.page_reader.proofs.Decided.{page_decided}
 use Rattle.page_reader.proofs.WholePages.{refused}
 

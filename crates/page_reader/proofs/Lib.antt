@@ -6,6 +6,7 @@ pub mod Levels
 pub mod Called
 pub mod NodeTrees
 pub mod NamedOnce
+pub mod AttributeNames
 pub mod Nodes
 pub mod Within
 pub mod WholePages

@@ -11,6 +11,7 @@ ghost use Rattle.page_reader.specs.Rules as rules;
 
 use crate::classes::{ends_attribute, is_end, is_letter, is_quote, is_white};
 use crate::fault::{PageRule, ReadError};
+use crate::named::NamedAttributes;
 use crate::names::{is_script, is_src};
 use crate::node::Attribute;
 use crate::reader::{Reader, broken, push_code};
@@ -100,7 +101,7 @@ impl<'a> Reader<'a> {
         alloc: Global,
         tag_at: u32,
         tag: &Text,
-        earlier: &Items<Attribute>,
+        earlier: &NamedAttributes,
         at: u32,
         name: Text,
     ) -> Result<Attribute, ReadError>
@@ -109,7 +110,7 @@ impl<'a> Reader<'a> {
         if is_script(tag) && is_src(&name) {
             return Err(self.wrong(tag_at, tag, PageRule::BadAttribute, at));
         }
-        if has_name(earlier, &name) {
+        if earlier.has_name(&name) {
             return Err(self.wrong(tag_at, tag, PageRule::TwiceNamed, at));
         }
         let value = self.after_name(alloc, tag_at, at)?;
@@ -123,7 +124,7 @@ impl<'a> Reader<'a> {
         alloc: Global,
         tag_at: u32,
         tag: &Text,
-        earlier: &Items<Attribute>,
+        earlier: &NamedAttributes,
         at: u32,
         letter: u16,
     ) -> Result<Attribute, ReadError>
@@ -146,7 +147,7 @@ impl<'a> Reader<'a> {
         alloc: Global,
         tag_at: u32,
         tag: &Text,
-        earlier: &mut Items<Attribute>,
+        earlier: &mut NamedAttributes,
         is_spaced: bool,
     ) -> Result<bool, ReadError>
         requires { IsTrue (form.attributes_go (Listing earlier.old is_spaced) (first self.old stop)) }
@@ -159,7 +160,7 @@ impl<'a> Reader<'a> {
             return Ok(true);
         }
         let attribute = self.attribute(alloc, tag_at, tag, earlier, at, letter as u16)?;
-        earlier.push(attribute)?;
+        earlier.push(alloc, attribute)?;
         Ok(false)
     }
 
@@ -173,22 +174,11 @@ impl<'a> Reader<'a> {
     ) -> Result<Items<Attribute>, ReadError>
         ensures { Reads (read stop (form.attributes tag_at tag.now) self.old) result self.new }
     {
-        let mut earlier = Items::new(alloc);
+        let mut earlier = NamedAttributes::new(alloc);
         let mut is_spaced = false;
         'pieces: while self.in_attributes(is_spaced) {
             is_spaced = self.attributes_piece(alloc, tag_at, tag, &mut earlier, is_spaced)?;
         }
-        Ok(earlier)
+        Ok(earlier.into_items())
     }
-}
-
-fn has_name(attributes: &Items<Attribute>, name: &Text) -> bool
-    ensures { result ≡ form.has_name attributes.now name.now }
-{
-    for attribute in attributes.as_slice() {
-        if attribute.name == *name {
-            return true;
-        }
-    }
-    false
 }

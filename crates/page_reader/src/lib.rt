@@ -6,6 +6,7 @@ mod classes;
 mod comments;
 mod content;
 mod fault;
+mod named;
 mod names;
 mod node;
 mod outside;
@@ -18,4 +19,6 @@ mod tags;
 mod whole;
 
 pub use fault::{PageFault, PageRule};
+pub use node::{Attribute, Node};
 pub use page::{PageParts, ScriptText, read_page};
+pub use whole::{PageTree, read_tree};

@@ -1,7 +1,9 @@
 //! Start tags and end tags.
 ghost use Rattle.std.specs.Prelude.{◌≡◌};
+ghost use Rattle.grammar.specs.Grammar.{first};
 ghost use Rattle.grammar.specs.Reading.{read};
 ghost use Rattle.placed_chars.specs.Chars.{stop};
+ghost use Rattle.page_reader.specs.declared.fault.ReadError.TheVariants as errors;
 ghost use Rattle.page_reader.specs.Reads.{Reads};
 ghost use Rattle.page_reader.specs.Rules as rules;
 ghost use Rattle.page_reader.specs.Tags as form;
@@ -64,10 +66,20 @@ impl<'a> Reader<'a> {
             self.advance();
             return Ok(());
         }
+        Err(self.not_this(at))
+    }
+
+    /// What another character shows than the next one of the innermost element's name; the end tag begins
+    /// at the byte `at`.
+    fn not_this(&self, at: u32) -> ReadError
+        ensures { result ≡ errors.Page (form.not_this at (first self.now stop)) }
+    {
+        let code = self.code();
         if is_part(code) || ends_name(code) {
-            return Err(self.cut_off(at, PageRule::Mismatch, at));
+            self.cut_off(at, PageRule::Mismatch, at)
+        } else {
+            self.cut_off(at, PageRule::BadTag, at)
         }
-        Err(self.cut_off(at, PageRule::BadTag, at))
     }
 
     /// Takes the innermost element's name.

@@ -33,7 +33,7 @@ pub struct PageTree {
 const LEVELS_BELOW: u8 = 127;
 
 /// The page that the bytes are, or the rule that they break.
-pub(crate) fn read_tree(alloc: Global, bytes: &[u8]) -> Result<PageTree, PageFault>
+pub fn read_tree(alloc: Global, bytes: &[u8]) -> Result<PageTree, PageFault>
     ensures found { TreeRead result bytes.now }
     ensures only { (trees : Trees) (scripts : List ScriptText) → IsPage bytes.now trees scripts → NoFault result }
     ensures only_fault { (rule at : ℕ) → IsPageFault bytes.now rule at → OnlyFault result rule at }
@@ -88,6 +88,3 @@ fn numbered(alloc: Global, slices: &[Slice]) -> Result<Vec<ScriptText>, NoMemory
     }
     Ok(scripts)
 }
-
-#[cfg(test)]
-mod tests;

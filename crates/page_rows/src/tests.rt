@@ -1,8 +1,7 @@
-//! Pages and their trees, and what is no page with the rule and the place, worked out by hand from the
-//! page form.
-use super::*;
-use crate::node::Attribute;
+use page_reader::{Attribute, Node, PageFault, PageTree, read_tree};
 use page_units::Text;
+use sqlite_items::Items;
+use std::alloc::Global;
 use std::test::Fail;
 
 fn push(out: &mut Vec<u16>, text: &str) -> Result<(), Fail> {
