@@ -323,77 +323,22 @@ fn stops_at_the_bound(rt: HostRuntime) -> Result<(), Fail> {
 // Each object fails once; behind a whole request a failed read leaves the reply.
 #[test]
 fn tells_faults(rt: HostRuntime) -> Result<(), Fail> {
-    let alloc = rt.alloc();
-    let page = b"<html></html>".as_slice();
-    let words = ["stdio", "p"].as_slice();
-    let (status, output) = ran(
-        alloc,
-        words,
-        page,
-        DOM,
-        Failing {
-            shelf: 1,
-            input: 0,
-            output: 0,
-        },
-    )?;
-    assert_eq!(rt; status, Status::ShelfFault);
-    assert!(rt; output.is_empty());
-    let (status, output) = ran(alloc, &["stdio", "q"], page, DOM, SURE)?;
-    assert_eq!(rt; status, Status::ShelfFault);
-    assert!(rt; output.is_empty());
-    let (status, output) = ran(
-        alloc,
-        words,
-        page,
-        DOM,
-        Failing {
-            shelf: 0,
-            input: 1,
-            output: 0,
-        },
-    )?;
-    assert_eq!(rt; status, Status::ReadFault);
-    assert!(rt; output.is_empty());
-    let (status, output) = ran(
-        alloc,
-        words,
-        page,
-        DOM,
-        Failing {
-            shelf: 0,
-            input: 4,
-            output: 0,
-        },
-    )?;
-    assert_eq!(rt; status, Status::ReadFault);
-    assert_eq!(rt; output.as_slice(), EMPTY_REPLY);
-    let (status, output) = ran(
-        alloc,
-        words,
-        page,
-        DOM,
-        Failing {
-            shelf: 0,
-            input: 0,
-            output: 1,
-        },
-    )?;
-    assert_eq!(rt; status, Status::WriteFault);
-    assert!(rt; output.is_empty());
-    let (status, output) = ran(
-        alloc,
-        words,
-        page,
-        DOM,
-        Failing {
-            shelf: 0,
-            input: 0,
-            output: 2,
-        },
-    )?;
-    assert_eq!(rt; status, Status::WriteFault);
-    assert_eq!(rt; output.as_slice(), &EMPTY_REPLY[..7]);
+    for (page, shelf, input, output, status, written) in [
+        ("p", 1, 0, 0, Status::ShelfFault, b"".as_slice()),
+        ("q", 0, 0, 0, Status::ShelfFault, b""),
+        ("p", 0, 1, 0, Status::ReadFault, b""),
+        ("p", 0, 4, 0, Status::ReadFault, EMPTY_REPLY),
+        ("p", 0, 0, 1, Status::WriteFault, b""),
+        ("p", 0, 0, 2, Status::WriteFault, b"HTTP/1."),
+    ] {
+        let failing = Failing {
+            shelf,
+            input,
+            output,
+        };
+        let (found, bytes) = ran(rt.alloc(), &["stdio", page], b"<html></html>", DOM, failing)?;
+        assert!(rt; found == status && bytes.as_slice() == written, "{found:?}");
+    }
     Ok(())
 }
 

@@ -17,6 +17,3 @@ pub use page_units::Wrote;
 pub use wire::{Incoming, Next, Wire};
 pub use wire_asks::{Asked, Asks, Refusal};
 pub use wire_replies::{Reply, write_reply};
-
-#[cfg(test)]
-mod tests;

@@ -99,6 +99,3 @@ impl Wire {
         })
     }
 }
-
-#[cfg(test)]
-mod tests;

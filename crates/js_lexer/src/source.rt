@@ -231,6 +231,3 @@ pub fn lex(alloc: Global, source: &str) -> Result<Vec<Token>, LexFault>
 {
     Lexer::new(alloc, source).source()
 }
-
-#[cfg(test)]
-mod tests;

@@ -19,6 +19,3 @@ pub use fault::OpFault;
 pub use numbers::NumberOf;
 pub use operators::{binary, unary};
 pub use suits::{is_primitive, suits_binary, suits_unary};
-
-#[cfg(test)]
-mod tests;

@@ -10,6 +10,3 @@ pub mod routes;
 
 pub use asked::{Asked, Asks, Refusal};
 pub use routes::Routes;
-
-#[cfg(test)]
-mod tests;

@@ -213,6 +213,3 @@ fn text_value(alloc: Global, text: &Text) -> Result<Value, NoMemory>
     let text = String::from_utf16_lossy(alloc, text.units())?;
     Ok(Value::String(text))
 }
-
-#[cfg(test)]
-mod tests;

@@ -90,6 +90,3 @@ fn close_line(close: bool) -> &'static str
 {
     if close { "Connection: close\r\n" } else { "" }
 }
-
-#[cfg(test)]
-mod tests;
