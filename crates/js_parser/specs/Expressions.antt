@@ -123,8 +123,6 @@ expr room below context codes = do
   x ← assign room below context codes
   again (λ _ t. shows p.Comma t) (comma room below context) x
 
--- ---- where no level is left
-
 -- ---- the first part of a `for` head
 
 -- the expression, whose statement has so many levels

@@ -27,10 +27,6 @@ use Rattle.js_lexer.specs.declared.token.Word.TheVariants as w
 use Rattle.js_tree.specs.declared.stmt.Stmt.TheVariants as s
 use Rattle.js_nodes.specs.declared.context.Closer.TheVariants as c
 
--- ---- what was read
-
--- ---- ends of statements
-
 -- ---- blocks
 
 abbrev pub series_more : Inside → Level → Series → R Series
