@@ -1,4 +1,3 @@
 pub mod Putting
 pub mod StartKinds
 pub mod StartIsSound
-pub mod Asking

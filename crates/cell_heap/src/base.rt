@@ -230,6 +230,3 @@ impl Cells for Base {
         self.kinds.len() as u32
     }
 }
-
-#[cfg(test)]
-mod tests;

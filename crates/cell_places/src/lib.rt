@@ -11,6 +11,3 @@ pub use answer::{Answer, CellNames, Guess, Guesses, Listener, Listeners, Texts, 
 pub use cells::{CellFault, Cells};
 pub use kind::{CellKind, FaultName};
 pub use place::{Place, Slot};
-
-#[cfg(test)]
-mod tests;

@@ -1,20 +1,7 @@
-//! The page host: loads one page and answers the requests of its input. `run` is the whole program
-//! over a shelf, a source and a sink; `main` hands it the real ones.
+//! The page host's program: hands `run` the words, the real files and the real streams.
 #![tactic(auto)]
 
-mod check;
-mod fault;
-mod host;
-mod run;
-mod status;
-mod stdio;
-mod stream;
-#[cfg(test)]
-mod tests;
-mod words;
-
-use crate::run::run;
-use crate::status::Status;
+use crom_host::{Status, run};
 use page_units::{FileShelf, StdSink, StdSource};
 use std::env;
 use std::process::ExitCode;

@@ -107,6 +107,3 @@ fn attribute_bytes(alloc: Global, name: &Text, value: &[u16]) -> Result<Vec<u8>,
     bytes.push(b'"')?;
     Ok(bytes)
 }
-
-#[cfg(test)]
-mod tests;

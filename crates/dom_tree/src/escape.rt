@@ -79,6 +79,3 @@ fn push_word(written: &mut Vec<u16>, word: &[u8]) -> Result<(), NoMemory>
     }
     Ok(())
 }
-
-#[cfg(test)]
-mod tests;

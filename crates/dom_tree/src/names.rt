@@ -1,5 +1,5 @@
 //! Names of elements that have a rule of their own.
-ghost use Rattle.std.specs.Prelude.{◌≡◌, ◌||◌};
+ghost use Rattle.std.specs.Prelude.{◌≡◌, ◌||◌, length};
 ghost use Rattle.std.specs.Str.{bytes_eq};
 ghost use Rattle.dom_tree.specs.Names as spec;
 
@@ -36,17 +36,18 @@ pub fn is_raw(name: &Text) -> bool
 fn is_word(name: &Text, word: &[u8]) -> bool
     ensures { result ≡ bytes_eq name.now word.now }
 {
-    let units = name.units();
-    if units.len() != word.len() {
-        return false;
-    }
-    for (i, byte) in word.iter().enumerate() {
-        if units[i] != u16::from(*byte) {
+    name.len() == word.len() && are_bytes(name.units(), word)
+}
+
+/// Whether the units are these ASCII bytes, of which there are as many.
+fn are_bytes(units: &[u16], word: &[u8]) -> bool
+    requires { length units.now ≡ length word.now }
+    ensures { result ≡ bytes_eq units.now word.now }
+{
+    for i in 0..word.len() {
+        if units[i] != u16::from(word[i]) {
             return false;
         }
     }
     true
 }
-
-#[cfg(test)]
-mod tests;

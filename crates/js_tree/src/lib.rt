@@ -12,6 +12,3 @@ pub use code::{FnCode, Program};
 pub use expr::{Entry, Expr};
 pub use operator::{BinOp, StepOp, UnOp};
 pub use stmt::{Case, Decl, Handler, Stmt};
-
-#[cfg(test)]
-mod tests;

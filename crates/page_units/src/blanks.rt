@@ -25,6 +25,3 @@ pub fn is_line_terminator(code: u32) -> bool
 {
     code == 0x0A || code == 0x0D || code == 0x2028 || code == 0x2029
 }
-
-#[cfg(test)]
-mod tests;

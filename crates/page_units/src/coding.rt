@@ -49,6 +49,3 @@ fn push_char(units: &mut Vec<u16>, c: char) -> Result<(), NoMemory>
     units.extend_from_slice(c.encode_utf16(&mut pair))?;
     Ok(())
 }
-
-#[cfg(test)]
-mod tests;

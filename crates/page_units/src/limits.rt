@@ -70,6 +70,3 @@ pub struct Limits {
     pub served: u64,
     pub ghost kept: { AreLimits (numbers weight task_steps depth text dom_text requests firings guesses contexts per_idle spec_steps spec_weight sketch_steps served) },
 }
-
-#[cfg(test)]
-mod tests;

@@ -94,6 +94,3 @@ impl Meter {
         self.total
     }
 }
-
-#[cfg(test)]
-mod tests;

@@ -65,6 +65,3 @@ impl<T: Drop> Clone for Shared<T> {
         })
     }
 }
-
-#[cfg(test)]
-mod tests;

@@ -115,6 +115,3 @@ impl Shelf for MemoryShelf {
         }
     }
 }
-
-#[cfg(test)]
-mod tests;

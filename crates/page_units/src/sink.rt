@@ -188,6 +188,3 @@ impl Sink for SureSink {
         Ok(Gave::Took(piece.len()))
     }
 }
-
-#[cfg(test)]
-mod tests;

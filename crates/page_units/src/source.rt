@@ -216,6 +216,3 @@ impl Source for SureSource {
         Took::Got(count)
     }
 }
-
-#[cfg(test)]
-mod tests;

@@ -189,6 +189,3 @@ fn front_of<R: Files>(files: &R, alloc: Global, name: &str) -> io::Result<Vec<u8
     bytes.truncate(FETCHED_BYTES);
     Ok(bytes)
 }
-
-#[cfg(test)]
-mod tests;

@@ -111,6 +111,3 @@ impl Ord for Text {
         self.units().cmp(other.units())
     }
 }
-
-#[cfg(test)]
-mod tests;

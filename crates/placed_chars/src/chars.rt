@@ -120,6 +120,3 @@ impl<'a> Characters<'a> {
         }
     }
 }
-
-#[cfg(test)]
-mod tests;

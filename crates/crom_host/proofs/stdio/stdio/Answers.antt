@@ -1,0 +1,78 @@
+use Rattle.std.proofs.Common.{◌≡◌, ◌+◌, ◌≤◌, ℕ, length, List, [], take, refl, ap, sym, ◌∙◌, subst, Some, Err, arith}
+use Rattle.std.proofs.lemmas.List.{append-nil}
+use Rattle.page_reader.specs.Page.{IsPage, IsPageFault}
+use Rattle.cell_heap.specs.Base.{heap_of}
+use Rattle.crom_host.specs.Loading.{IsScripted, LoadSays}
+use Rattle.crom_host.specs.Plain.{Loads}
+use Rattle.crom_host.proofs.Serving.{headline_of, fault_headline, fault_refused, fault_complete}
+use Rattle.crom_host.proofs.Complete.{complete_of}
+use Rattle.crom_host.proofs.stdio.stdio.Goals as goal
+
+-- ---- the page has a script
+
+pub returns-in-Ok-HasScripts-clause-headline : goal.returns-in-Ok-HasScripts-clause-headline
+returns-in-Ok-HasScripts-clause-headline g c = λ page bytes old f l o.
+    let got = rw c.in-Ok-Bytes.field-0-is at c.in-Ok-Bytes.ensures.bytes in
+    let text : c.as_slice.result.now ≡ take 1048577 page = c.as_slice.ensures.value ∙ got page f in
+    let says = rw c.in-Ok-HasScripts.field-0-is at c.in-Ok-HasScripts.ensures.says in
+    ([], o ∙ ap Some (sym (append-nil old)), (subst IsScripted text says, refl))
+
+pub returns-in-Ok-HasScripts-clause-refused : goal.returns-in-Ok-HasScripts-clause-refused
+returns-in-Ok-HasScripts-clause-refused g c = λ page f number at fault.
+    let got = rw c.in-Ok-Bytes.field-0-is at c.in-Ok-Bytes.ensures.bytes in
+    let text : c.as_slice.result.now ≡ take 1048577 page = c.as_slice.ensures.value ∙ got page f in
+    absurd (c.in-Ok-HasScripts.ensures.only_fault number at (subst (λ (z : List ℕ). IsPageFault z number at) (sym text) fault))
+
+pub returns-in-Ok-HasScripts-clause-complete : goal.returns-in-Ok-HasScripts-clause-complete
+returns-in-Ok-HasScripts-clause-complete g c = λ page bytes old f l o whole calm_shelf calm_input calm_output.
+    let got = rw c.in-Ok-Bytes.field-0-is at c.in-Ok-Bytes.ensures.bytes in
+    let text : c.as_slice.result.now ≡ take 1048577 page = c.as_slice.ensures.value ∙ got page f in
+    let only = rw c.in-Ok-HasScripts.field-0-is at c.in-Ok-HasScripts.ensures.only in
+    absurd (only whole.loads.trees (subst (λ (z : List ℕ). IsPage z whole.loads.trees []) (sym text) whole.loads.reads))
+
+-- ---- the page breaks a rule
+
+pub returns-in-Err-load-clause-headline : goal.returns-in-Err-load-clause-headline
+returns-in-Err-load-clause-headline g c = λ page bytes old f l o.
+    let got = rw c.in-Ok-Bytes.field-0-is at c.in-Ok-Bytes.ensures.bytes in
+    let text : c.as_slice.result.now ≡ take 1048577 page = c.as_slice.ensures.value ∙ got page f in
+    let says = subst (LoadSays (Err c.in-Err-load.fault)) text c.in-Err-load.ensures.says in
+    rw c.status_of_fault.ensures ([], o ∙ ap Some (sym (append-nil old)), fault_headline c.in-Err-load.fault (take 1048577 page) bytes _ says)
+
+pub returns-in-Err-load-clause-refused : goal.returns-in-Err-load-clause-refused
+returns-in-Err-load-clause-refused g c = λ page f number at fault.
+    let got = rw c.in-Ok-Bytes.field-0-is at c.in-Ok-Bytes.ensures.bytes in
+    let text : c.as_slice.result.now ≡ take 1048577 page = c.as_slice.ensures.value ∙ got page f in
+    rw c.status_of_fault.ensures (fault_refused c.in-Err-load.fault number at (c.in-Err-load.ensures.only_fault number at (subst (λ (z : List ℕ). IsPageFault z number at) (sym text) fault)))
+
+pub returns-in-Err-load-clause-complete : goal.returns-in-Err-load-clause-complete
+returns-in-Err-load-clause-complete g c = λ page bytes old f l o whole calm_shelf calm_input calm_output.
+    let got = rw c.in-Ok-Bytes.field-0-is at c.in-Ok-Bytes.ensures.bytes in
+    let text : c.as_slice.result.now ≡ take 1048577 page = c.as_slice.ensures.value ∙ got page f in
+    rw c.status_of_fault.ensures (fault_complete c.in-Err-load.fault (c.in-Err-load.ensures.only whole.loads.trees (subst (λ (z : List ℕ). IsPage z whole.loads.trees []) (sym text) whole.loads.reads)))
+
+-- ---- the page is loaded
+
+pub returns-clause-headline : goal.returns-clause-headline
+returns-clause-headline g c = λ page bytes old f l o.
+    let got = rw c.in-Ok-Bytes.field-0-is at c.in-Ok-Bytes.ensures.bytes in
+    let text : c.as_slice.result.now ≡ take 1048577 page = c.as_slice.ensures.value ∙ got page f in
+    let says = rw c.in-Ok-Ready.field-0-is at c.in-Ok-Ready.ensures.says in
+    let loads : Loads (take 1048577 page) (heap_of c.in-Ok-Ready.base) = subst (λ (z : List ℕ). Loads z (heap_of c.in-Ok-Ready.base)) text says.0 in
+    let s = c.serve_stream.ensures.stream bytes old l o in
+    let stream = rw c.default_number.ensures at s.2 in
+    rw c.status_of.ensures (s.0, s.1, headline_of c.serve_stream.result _ bytes s.0 _ (record { start = _; last = _; count = _; loads = loads; stream = stream }))
+
+pub returns-clause-refused : goal.returns-clause-refused
+returns-clause-refused g c = λ page f number at fault.
+    let got = rw c.in-Ok-Bytes.field-0-is at c.in-Ok-Bytes.ensures.bytes in
+    let text : c.as_slice.result.now ≡ take 1048577 page = c.as_slice.ensures.value ∙ got page f in
+    absurd (c.in-Ok-Ready.ensures.only_fault number at (subst (λ (z : List ℕ). IsPageFault z number at) (sym text) fault))
+
+pub returns-clause-complete : goal.returns-clause-complete
+returns-clause-complete g c = λ page bytes old f l o whole calm_shelf calm_input calm_output.
+    let got = rw c.in-Ok-Bytes.field-0-is at c.in-Ok-Bytes.ensures.bytes in
+    let text : c.as_slice.result.now ≡ take 1048577 page = c.as_slice.ensures.value ∙ got page f in
+    let most : 0 + length whole.requests ≤ c.default_number.result = omega (arith, whole.few) in
+    let ended = c.serve_stream.ensures.whole bytes whole.requests l whole.whole most in
+    rw c.status_of.ensures (complete_of c.serve_stream.result _ _ _ _ ended c.serve_stream.ensures.causes calm_input calm_output)

@@ -1,0 +1,92 @@
+-- What `run` says of the page that is loaded, and of faults.
+use Rattle.std.specs.Prelude.{◌≡◌, ◌⊎◌, ◌≤◌, ℕ, List, [], length, Option, Result, Ok, Err, ⊤}
+use Rattle.std.specs.declared.alloc.AllocError.{AllocError}
+use Rattle.page_units.specs.declared.limits.Limit.TheVariants.{Served as ServedLimit}
+use Rattle.page_units.specs.Limits.{default_limit}
+use Rattle.page_units.specs.Outside.{Rose}
+use Rattle.cell_places.specs.Heap.{Heap}
+use Rattle.http_wire.specs.Messages.{Message}
+use Rattle.http_wire.specs.Requests.{RequestsOf, ended}
+use Rattle.page_reader.specs.declared.fault.PageFault.{PageFault}
+use Rattle.page_reader.specs.declared.fault.PageFault.TheVariants as fault
+use Rattle.page_reader.specs.Page.{IsPageFault}
+use Rattle.crom_host.specs.declared.status.Status.{Status}
+use Rattle.crom_host.specs.declared.status.Status.TheVariants.{Ended, Usage, Page, Script, NotBuilt, ReadFault, WriteFault, NoMemory, ShelfFault, Truncated, RequestBound}
+use Rattle.crom_host.specs.declared.stream.Ended as stream
+use Rattle.crom_host.specs.declared.stream.Ended.TheVariants as end
+use Rattle.crom_host.specs.Plain.{Loads}
+use Rattle.crom_host.specs.Loading.{IsScripted}
+use Rattle.crom_host.specs.Stream.{Streamed}
+
+-- the status of a run whose stream ended so
+abbrev pub status_of : Result stream.Ended AllocError → Status
+status_of (Ok end.End) = Ended
+status_of (Ok end.Closed) = Ended
+status_of (Ok end.Halted) = Ended
+status_of (Ok end.Truncated) = Truncated
+status_of (Ok end.RequestBound) = RequestBound
+status_of (Ok end.ReadFault) = ReadFault
+status_of (Ok end.WriteFault) = WriteFault
+status_of (Err e) = NoMemory
+
+-- the status of a run whose page wasn't read
+abbrev pub status_of_fault : PageFault → Status
+status_of_fault (fault.Rule number at) = Page (fault.Rule number at)
+status_of_fault fault.NoMemory = NoMemory
+
+-- the page was loaded, and its host served the stream
+pub record Served (result : Result stream.Ended AllocError) (page bytes written : List ℕ) (left : Option (List ℕ)) : Type 0 where
+  pub start : Heap
+  pub last : Heap
+  pub count : ℕ
+  pub loads : Loads page start
+  pub stream : Streamed result (default_limit ServedLimit) start last 0 count bytes written left
+
+-- What was written for the page and the bytes of the input, by the status; `left` is what is left of the input.
+abbrev pub Headline : Status → (page bytes written : List ℕ) → (left : Option (List ℕ)) → Type 0
+Headline Usage page bytes written left = ⊥
+Headline ShelfFault page bytes written left = written ≡ []
+Headline (Page (fault.Rule number at)) page bytes written left = IsPageFault page number at × (written ≡ [])
+Headline (Page fault.NoMemory) page bytes written left = ⊥
+Headline (Script index fault) page bytes written left = ⊥
+Headline NotBuilt page bytes written left = IsScripted page × (written ≡ [])
+Headline NoMemory page bytes written left = (written ≡ []) ⊎ ((e : AllocError) × Served (Err e) page bytes written left)
+Headline Ended page bytes written left =
+    Served (Ok end.End) page bytes written left ⊎ Served (Ok end.Closed) page bytes written left ⊎ Served (Ok end.Halted) page bytes written left
+Headline Truncated page bytes written left = Served (Ok end.Truncated) page bytes written left
+Headline RequestBound page bytes written left = Served (Ok end.RequestBound) page bytes written left
+Headline ReadFault page bytes written left = Served (Ok end.ReadFault) page bytes written left
+Headline WriteFault page bytes written left = Served (Ok end.WriteFault) page bytes written left
+
+-- the run ended with this fault of the page, or before the page was read
+abbrev pub IsRefused : Status → (number at : ℕ) → Type 0
+IsRefused (Page (fault.Rule n a)) number at = (n ≡ number) × (a ≡ at)
+IsRefused ShelfFault number at = ⊤
+IsRefused NoMemory number at = ⊤
+IsRefused _ number at = ⊥
+
+-- no count rose
+abbrev pub Calm : (shelf shelf' input input' output output' : ℕ) → Type 0
+Calm shelf shelf' input input' output output' = (shelf' ≡ shelf) × (input' ≡ input) × (output' ≡ output)
+
+-- Each fault comes only where its count rose, and an end without a fault only where none did.
+abbrev pub Causes : Status → (shelf shelf' input input' output output' : ℕ) → Type 0
+Causes Ended shelf shelf' input input' output output' = Calm shelf shelf' input input' output output'
+Causes Usage shelf shelf' input input' output output' = Calm shelf shelf' input input' output output'
+Causes (Page fault) shelf shelf' input input' output output' = Calm shelf shelf' input input' output output'
+Causes (Script index fault) shelf shelf' input input' output output' = Calm shelf shelf' input input' output output'
+Causes NotBuilt shelf shelf' input input' output output' = Calm shelf shelf' input input' output output'
+Causes Truncated shelf shelf' input input' output output' = Calm shelf shelf' input input' output output'
+Causes RequestBound shelf shelf' input input' output output' = Calm shelf shelf' input input' output output'
+Causes NoMemory shelf shelf' input input' output output' = Calm shelf shelf' input input' output output'
+Causes ShelfFault shelf shelf' input input' output output' = Rose shelf shelf' × (input' ≡ input) × (output' ≡ output)
+Causes ReadFault shelf shelf' input input' output output' = (shelf' ≡ shelf) × Rose input input' × (output' ≡ output)
+Causes WriteFault shelf shelf' input input' output output' = (shelf' ≡ shelf) × (input' ≡ input) × Rose output output'
+
+-- a page that is read and has no script, and an input of whole requests within the bound
+pub record IsWhole (page bytes : List ℕ) : Type 0 where
+  pub heap : Heap
+  pub loads : Loads page heap
+  pub requests : List Message
+  pub whole : RequestsOf bytes requests ended
+  pub few : length requests ≤ default_limit ServedLimit

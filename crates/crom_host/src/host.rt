@@ -1,0 +1,157 @@
+//! The host of a loaded page.
+ghost use Rattle.std.specs.Prelude.{◌≡◌, [], ℕ, List, IfOk, true};
+ghost use Rattle.cell_places.specs.Kinds.{is_node};
+ghost use Rattle.cell_places.specs.Heap.{kind_at};
+ghost use Rattle.cell_places.specs.Sound.{IsSound};
+ghost use Rattle.cell_heap.specs.Base.{heap_of};
+ghost use Rattle.dom_tree.specs.Trees.{Trees};
+ghost use Rattle.page_reader.specs.Page.{IsPage, IsPageFault};
+ghost use Rattle.page_reader.specs.Reading.{OnlyFault};
+ghost use Rattle.wire_replies.specs.ReplyBytes.{IsReply};
+ghost use Rattle.crom_host.specs.Replying as replies;
+ghost use Rattle.crom_host.specs.Plain.{Answered, PlainStep, Serves, ServesId};
+ghost use Rattle.crom_host.specs.Loading.{LoadSays, OnlyReady};
+
+use cell_heap::Base;
+use dom_tree::{dom_text, element_by_id};
+use page_reader::{PageFault, read_page};
+use page_units::{CellName, Limit, NoMemory, Text};
+use std::alloc::Global;
+use wire_asks::{Asked, Refusal};
+use wire_replies::{Reply, halted_reply, long_text_reply, refusal_reply, tree_reply};
+
+/// The cell of the document.
+const DOCUMENT: CellName = CellName(2);
+
+/// What loading a page gave.
+#[derive(Drop)]
+pub enum Loaded {
+    /// The heap of the page, whose tree stands under its document.
+    Ready(Base),
+    /// The page has a `script` element, which isn't run yet.
+    HasScripts,
+}
+
+/// Loads a page. `Rule` comes exactly where the bytes are no page, with the number of the rule
+/// that they break and the byte at which; `HasScripts` exactly where the page has a script.
+pub fn load(alloc: Global, page: &[u8]) -> Result<Loaded, PageFault>
+    ensures says { LoadSays result page.now }
+    // A page without scripts is loaded, and what breaks a rule is refused with it.
+    ensures only { (trees : Trees) → IsPage page.now trees [] → OnlyReady result }
+    ensures only_fault { (number at : ℕ) → IsPageFault page.now number at → OnlyFault result number at }
+{
+    let mut base = Base::start(alloc, Limit::Weight.default_number(), 0)?;
+    let parts = match read_page(alloc, &mut base, page) {
+        Ok(parts) => parts,
+        Err(fault) => return Err(fault),
+    };
+    if parts.scripts.is_empty() {
+        Ok(Loaded::Ready(base))
+    } else {
+        Ok(Loaded::HasScripts)
+    }
+}
+
+/// The reply to what came: to what is asked, or to what is refused. After want of memory the heap
+/// is as it was.
+pub fn answer(
+    alloc: Global,
+    base: &mut Base,
+    asked: &Result<Asked, Refusal>,
+) -> Result<Reply, NoMemory>
+    requires sound { IsSound 0 (heap_of base.old) }
+    ensures answered { IfOk result (λ reply. (r : replies.Reply)
+        × Answered (heap_of base.old) asked.now [] [] r (heap_of base.new) × replies.IsOf reply r) }
+    ensures valid { IfOk result IsReply }
+    ensures sound { IsSound 0 (heap_of base.new) }
+{
+    match asked {
+        Ok(asked) => obey(alloc, base, asked),
+        Err(refusal) => refused(alloc, *refusal),
+    }
+}
+
+/// The reply to a command: so far those that ask for tree texts, and `/halt`.
+fn obey(alloc: Global, base: &mut Base, asked: &Asked) -> Result<Reply, NoMemory>
+    requires sound { IsSound 0 (heap_of base.old) }
+    ensures step { IfOk result (λ reply. (r : replies.Reply)
+        × PlainStep (heap_of base.old) asked.now [] [] r (heap_of base.new) × replies.IsOf reply r) }
+    ensures valid { IfOk result IsReply }
+    ensures sound { IsSound 0 (heap_of base.new) }
+{
+    match asked {
+        Asked::Dom => serve(alloc, base, DOCUMENT),
+        Asked::Node(id) => serve_element(alloc, base, id),
+        Asked::Halt => halted(alloc),
+        Asked::Load => not_built(alloc),
+        Asked::Stats => not_built(alloc),
+        Asked::Event(_) => not_built(alloc),
+        Asked::Tick(_) => not_built(alloc),
+    }
+}
+
+/// The reply with the tree text of the first element with this id, or that there is none.
+fn serve_element(alloc: Global, base: &mut Base, id: &Text) -> Result<Reply, NoMemory>
+    requires sound { IsSound 0 (heap_of base.old) }
+    ensures step { IfOk result (λ reply. (r : replies.Reply)
+        × ServesId (heap_of base.old) id.now r × replies.IsOf reply r) }
+    ensures valid { IfOk result IsReply }
+    ensures same { heap_of base.new ≡ heap_of base.old }
+{
+    match element_by_id(alloc, base, id)?.cell {
+        Some(element) => serve(alloc, base, element),
+        None => refused(alloc, Refusal::NoTarget),
+    }
+}
+
+/// The reply with the tree text of a node, or that it is too long.
+fn serve(alloc: Global, base: &mut Base, node: CellName) -> Result<Reply, NoMemory>
+    requires sound { IsSound 0 (heap_of base.old) }
+    requires node { is_node (kind_at (heap_of base.old) node) ≡ true }
+    ensures serves { IfOk result (λ reply. (r : replies.Reply)
+        × Serves (heap_of base.old) node r × replies.IsOf reply r) }
+    ensures valid { IfOk result IsReply }
+    ensures same { heap_of base.new ≡ heap_of base.old }
+{
+    match dom_text(alloc, base, node, Limit::DomText.default_number())? {
+        Some(text) => Ok(tree_reply(text)),
+        None => long_text(alloc),
+    }
+}
+
+/// The reply that a tree text is too long.
+fn long_text(alloc: Global) -> Result<Reply, NoMemory>
+    ensures is { IfOk result (λ reply. replies.IsOf reply replies.long_text) }
+    ensures valid { IfOk result IsReply }
+{
+    long_text_reply(alloc)
+}
+
+/// The reply to what is refused.
+fn refused(alloc: Global, refusal: Refusal) -> Result<Reply, NoMemory>
+    ensures is { IfOk result (λ reply. replies.IsOf reply (replies.refused refusal)) }
+    ensures valid { IfOk result IsReply }
+{
+    refusal_reply(alloc, refusal)
+}
+
+/// The reply to a `/halt`.
+fn halted(alloc: Global) -> Result<Reply, NoMemory>
+    ensures is { IfOk result (λ reply. replies.IsOf reply replies.halted) }
+    ensures valid { IfOk result IsReply }
+{
+    halted_reply(alloc)
+}
+
+/// The reply to a command that isn't built yet.
+fn not_built(alloc: Global) -> Result<Reply, NoMemory>
+    ensures is { IfOk result (λ reply. replies.IsOf reply replies.not_built) }
+    ensures valid { IfOk result IsReply }
+{
+    Ok(Reply {
+        status: 501,
+        html: false,
+        allow: None,
+        body: Vec::from_slice(alloc, b"{\"refused\":\"NotBuilt\"}")?,
+    })
+}

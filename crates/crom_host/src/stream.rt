@@ -1,0 +1,99 @@
+//! A stream of requests, each answered.
+ghost use Rattle.std.specs.Prelude.{◌≡◌, ◌≤◌, ◌+◌, ℕ, ◌++◌, List, Some, length};
+ghost use Rattle.cell_places.specs.Sound.{IsSound};
+ghost use Rattle.cell_heap.specs.Base.{heap_of};
+ghost use Rattle.http_wire.specs.Messages.{Message};
+ghost use Rattle.http_wire.specs.Requests as requests;
+ghost use Rattle.crom_host.specs.Plain as plain;
+ghost use Rattle.crom_host.specs.Stream.{Streamed, StreamCauses, IsWholeEnd};
+
+use crate::host::answer;
+use cell_heap::Base;
+use http_wire::{Incoming, Next, Wire};
+use page_units::{NoMemory, Sink, Source, Wrote};
+use std::alloc::Global;
+use wire_asks::{Asked, Refusal};
+use wire_replies::write_reply;
+
+/// How a stream ended.
+#[derive(Clone, Copy, Debug, PartialEq, Eq)]
+pub enum Ended {
+    /// Between two requests.
+    End,
+    /// Behind a reply that closes, which was written whole.
+    Closed,
+    /// Behind the reply to a `/halt`, which was written whole.
+    Halted,
+    /// Inside a request; those before it were answered.
+    Truncated,
+    /// A read failed; what was read whole was answered.
+    ReadFault,
+    /// A write failed; a front of the replies was written.
+    WriteFault,
+    /// As many requests were answered as may be, and one more came, whole or refused.
+    RequestBound,
+}
+
+/// Answers each request of the source in turn, before the source is asked again, until the stream
+/// ends, a reply closes it or `most` requests were answered; `served` counts them, the one whose
+/// reply couldn't be written whole with them.
+pub fn serve_stream<S: Source, W: Sink>(
+    alloc: Global,
+    base: &mut Base,
+    served: &mut u64,
+    most: u64,
+    source: &mut S,
+    sink: &mut W,
+) -> Result<Ended, NoMemory>
+    requires sound { IsSound 0 (heap_of base.old) }
+    requires bound { served.old ≤ most }
+    ensures causes { StreamCauses result (S.faults source.old) (S.faults source.new) (W.faults sink.old) (W.faults sink.new) }
+    ensures stream { (bytes old : List ℕ) → S.left source.old ≡ Some bytes → W.told sink.old ≡ Some old →
+        (written : List ℕ) × (W.told sink.new ≡ Some (old ++ written))
+        × Streamed result most (heap_of base.old) (heap_of base.new) served.old served.new bytes written (S.left source.new) }
+    // Whole requests within the bound are answered, up to one that closes.
+    ensures whole { (bytes : List ℕ) (all : List Message) → S.left source.old ≡ Some bytes → requests.RequestsOf bytes all requests.ended
+        → served.old + length all ≤ most → IsWholeEnd result }
+{
+    let mut wire = Wire::new(alloc)?;
+    loop {
+        match wire.next(source)? {
+            Next::Request(incoming) => {
+                if *served >= most {
+                    return Ok(Ended::RequestBound);
+                }
+                let reply = answer(alloc, base, &incoming.asked)?;
+                *served += 1;
+                let halts = is_halt(&incoming.asked);
+                let close = ends_behind(&incoming);
+                match write_reply(alloc, sink, &reply, close)? {
+                    Wrote::All => {}
+                    Wrote::Failed => return Ok(Ended::WriteFault),
+                }
+                if halts {
+                    return Ok(Ended::Halted);
+                }
+                if close {
+                    return Ok(Ended::Closed);
+                }
+            }
+            Next::End => return Ok(Ended::End),
+            Next::Truncated => return Ok(Ended::Truncated),
+            Next::Failed => return Ok(Ended::ReadFault),
+        }
+    }
+}
+
+/// Whether the connection ends behind the reply.
+fn ends_behind(incoming: &Incoming) -> bool
+    ensures { result ≡ plain.ends_behind incoming.now }
+{
+    incoming.close || is_halt(&incoming.asked)
+}
+
+/// Whether it is a `/halt`.
+fn is_halt(asked: &Result<Asked, Refusal>) -> bool
+    ensures { result ≡ plain.is_halt asked.now }
+{
+    matches!(asked, Ok(Asked::Halt))
+}

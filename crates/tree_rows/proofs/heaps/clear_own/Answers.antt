@@ -1,0 +1,7 @@
+use Rattle.std.proofs.Common.{refl}
+use Rattle.cell_places.specs.declared.place.Slot.TheVariants.{Own}
+use Rattle.tree_rows.proofs.Asking.{document_cleared}
+use Rattle.tree_rows.proofs.heaps.clear_own.Goals as goal
+
+pub put-requires : goal.put-requires
+put-requires c = document_cleared _ (Own c.in_ok-text_of.field-0) c.requires refl
