@@ -1,6 +1,6 @@
 //! Rows of cases that were worked out by hand, in a file `rows.json` beside a program that runs them: a list of
 //! groups, each a list of the group's name and its rows, each row a list of fields. A field is a text, or a list of
-//! texts and numbers that is one text: a number stands for the text before it, so many times in all.
+//! texts and numbers that is one text: a number, at least 1, stands for the text before it, so many times in all.
 #![tactic(auto)]
 
 mod fields;
@@ -14,12 +14,13 @@ use std::fs;
 
 /// What works out the answer of a row: its last field, where all is well.
 pub trait Answers {
-    /// The answer to the fields before the last, in the group of this name.
+    /// The answer to the fields before the last, in the group of this name. An Err is out of memory.
     fn answer(&self, alloc: Global, group: &str, fields: &[String]) -> Result<String, AllocError>;
 }
 
 /// Works out each row of `rows.json`, and prints the rows whose answer is another, and the number of rows of each group.
-/// An Err is the file that is not there, or is no list of groups, or out of memory.
+/// What is no list counts as an empty one, so a file of another shape prints fewer groups. An Err is a file that can't be
+/// read or is no JSON, a failed print, or out of memory.
 pub fn run(rt: HostRuntime, answers: &impl Answers) -> anyhow::Result<()> {
     let text = fs::read_to_string(&rt, "rows.json")?;
     let file = Value::from_str(rt.alloc(), text.as_str())?;
