@@ -18,6 +18,7 @@ bad_reads (Some f) ts e o q h = rw h q
 
 -- An operand with a flaw is refused behind its operator.
 pub prefix_refused : (x : Context) (t : Next) (y : Operand) (o : Option Fault) (f : Fault) (ts : List Next) (e : ParseError) → o ≡ Some f → Unfits (flaw_shown x f (first ts None)) e → Reads (read None (prefix_end x t y o) ts) (Err e) ts
+unfolding prefix_end
 prefix_refused x t y o f ts e h u =
     subst (λ (o : Option Fault). Reads (read None (prefix_end x t y o) ts) (Err e) ts) (sym h)
     (bad_reads (flaw_shown x f (first ts None)) ts e (read None (prefix_end x t y (Some f)) ts) refl u)

@@ -21,12 +21,12 @@ use Rattle.js_cursor.specs.Questions.{twice, is_postfix, goes_on, unless_name, j
 use Rattle.js_lexer.specs.declared.token.Punct.TheVariants as p
 use Rattle.js_tree.specs.declared.expr.Expr.TheVariants as e
 
-abbrev pub parameter : List (List ℕ) → R (List ℕ)
+unfoldable pub parameter : List (List ℕ) → R (List ℕ)
 parameter names = do
   t ← sound (twice names) (of is_name)
   done (text t)
 
-abbrev pub more_parameters : List (List ℕ) → R (List (List ℕ))
+unfoldable pub more_parameters : List (List ℕ) → R (List (List ℕ))
 more_parameters names = do
   sign p.Comma
   n ← parameter names
@@ -39,7 +39,7 @@ member_name = do
   done (text t)
 
 -- behind `.`
-abbrev pub member : Operand → R Operand
+unfoldable pub member : Operand → R Operand
 member x = do
   n ← member_name
   done (over (e.Member x.value n) x)
@@ -48,7 +48,7 @@ abbrev pub stepped : Operand → Next → Operand
 stepped x None = x
 stepped x (Some t) = over (e.Step (step_op t.kind) false x.value) x
 
-abbrev pub stepped_or_not : ℕ → Operand → R Operand
+unfoldable pub stepped_or_not : ℕ → Operand → R Operand
 stepped_or_not room x = or
     (do
       t ← takes is_postfix (target_flaw room x)
@@ -62,7 +62,7 @@ prefixed x None = x
 prefixed x (Some t) = operand (prefix_value t.kind x.value) x.codes t.at (raised t.at x.depth)
 
 -- behind the operand of the operator: where that is wrong, what may follow shows so
-abbrev pub prefix_end : Context → Next → Operand → Option Fault → R Operand
+unfoldable pub prefix_end : Context → Next → Operand → Option Fault → R Operand
 prefix_end context t x None = done (prefixed x t)
 prefix_end context t x (Some f) = refused (flaw_shown context f)
 
@@ -74,11 +74,11 @@ lone_name codes = do
   done (leaf (e.Name (text t)) codes t)
 
 -- a semicolon, or where one is inserted (7.9.1)
-abbrev pub semi : R (Unit {0})
+unfoldable pub semi : R (Unit {0})
 semi = or (sign p.Semicolon >> done tt) (before inserted)
 
 -- the end of a statement that begins here, over parts with these levels
-abbrev pub ended : Stmt → State → ℕ → Depth → R Said
+unfoldable pub ended : Stmt → State → ℕ → Depth → R Said
 ended stmt added at depth = do
   semi
   done (said stmt added at depth)
@@ -89,7 +89,7 @@ jump stmt added t = do
   ended stmt added (place t) nothing
 
 -- behind an expression in brackets, which is the key of a property
-abbrev pub indexed : Expr → ℕ → Depth → Operand → R Operand
+unfoldable pub indexed : Expr → ℕ → Depth → Operand → R Operand
 indexed value at depth y = do
   sign p.RightBracket
   done (operand (e.Index value y.value) y.codes at (raised at (both depth y.depth)))

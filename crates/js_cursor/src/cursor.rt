@@ -141,6 +141,7 @@ impl<'a> Cursor<'a> {
     }
 
     /// Takes this token.
+    #[tactic(auto, unfolding(crate::specs::Words::sign))]
     pub fn take(&mut self, sign: Punct) -> Result<(), ParseError>
         ensures { Reads (read None (words.sign sign) self.old) result self.new }
     {
@@ -153,6 +154,7 @@ impl<'a> Cursor<'a> {
     }
 
     /// Takes this token.
+    #[tactic(auto, unfolding(crate::specs::Words::word))]
     pub fn take_word(&mut self, word: Word) -> Result<(), ParseError>
         ensures { Reads (read None (words.word word) self.old) result self.new }
     {
@@ -165,6 +167,7 @@ impl<'a> Cursor<'a> {
     }
 
     /// Takes a name.
+    #[tactic(auto, unfolding(crate::specs::Words::name, crate::specs::Words::sound))]
     pub fn name(&mut self) -> Result<Text, ParseError>
         ensures { Reads (read None words.name self.old) result self.new }
     {

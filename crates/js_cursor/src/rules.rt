@@ -1,6 +1,6 @@
 //! Rules that need no other (ECMA-262 5.1, sections 11 to 13).
 ghost use Rattle.std.specs.Prelude.{◌≡◌, ◌≤◌, ◌<◌, ◌+◌, max, Some, None, IfOk, true};
-ghost use Rattle.grammar.specs.Grammar.{first};
+ghost use Rattle.grammar.specs.Grammar.{first, done};
 ghost use Rattle.grammar.specs.Reading.{read};
 ghost use Rattle.js_nodes.specs.Next as ahead;
 ghost use Rattle.js_nodes.specs.Operands as operands;
@@ -21,6 +21,7 @@ use sqlite_items::{Boxed, Items};
 
 impl<'a> Cursor<'a> {
     /// A name that isn't among these.
+    #[tactic(auto, unfolding(crate::specs::Rules::parameter, crate::specs::Words::sound))]
     pub fn parameter(&mut self, names: &Names) -> Result<Text, ParseError>
         ensures { Reads (read None (rules.parameter names.now) self.old) result self.new }
     {
@@ -46,6 +47,7 @@ impl<'a> Cursor<'a> {
     }
 
     /// A comma and one more.
+    #[tactic(auto, unfolding(crate::specs::Rules::more_parameters))]
     pub fn more_parameters(&mut self, names: Names) -> Result<Names, ParseError>
         ensures { Reads (read None (rules.more_parameters names) self.old) result self.new }
     {
@@ -70,6 +72,7 @@ impl<'a> Cursor<'a> {
     }
 
     /// A property behind its `.`.
+    #[tactic(auto, unfolding(crate::specs::Rules::member))]
     pub fn member(&mut self, room: u8, x: Operand) -> Result<Operand, ParseError>
         requires few { room ≤ 128 }
         requires within { x.depth.height < room }
@@ -81,6 +84,7 @@ impl<'a> Cursor<'a> {
     }
 
     /// An operand's `++` or `--`, if there is one.
+    #[tactic(auto, unfolding(crate::specs::Rules::stepped_or_not, crate::specs::Words::takes, crate::specs::Words::sound))]
     pub fn stepped(&mut self, room: u8, x: Operand) -> Result<Operand, ParseError>
         requires few { room ≤ 128 }
         requires within { x.depth.height ≤ room }
@@ -97,18 +101,14 @@ impl<'a> Cursor<'a> {
             Some(fault) => Err(ParseError::Shown(fault)),
             None => {
                 self.advance();
-                let operand = Boxed::new(self.alloc(), x.value)?;
-                Ok(node(
-                    Expr::Step(step_op(&token.kind), false, operand),
-                    x.codes,
-                    x.at,
-                    x.depth,
-                ))
+                let value = Expr::Step(step_op(&token.kind), false, x.value);
+                Ok(node(self.alloc(), value, x.codes, x.at, x.depth)?)
             }
         }
     }
 
     /// Behind the operand of a prefix operator.
+    #[tactic(auto, unfolding(crate::specs::Rules::prefix_end))]
     pub fn prefix_end(
         &mut self,
         room: u8,
@@ -123,16 +123,28 @@ impl<'a> Cursor<'a> {
     {
         match x.prefix_flaw(&token.kind) {
             Some(fault) => Err(self.flaw_shown(context, fault)),
-            None => Ok(node(
-                prefixed(self.alloc(), &token.kind, x.value)?,
-                x.codes,
-                token.at,
-                x.depth,
-            )),
+            None => {
+                let value = prefixed(&token.kind, x.value);
+                Ok(node(self.alloc(), value, x.codes, token.at, x.depth)?)
+            }
         }
     }
 
+    /// A node without parts, which is this token.
+    pub fn leaf(
+        &self,
+        value: Expr,
+        codes: Items<FnCode>,
+        token: &Token,
+    ) -> Result<Operand, ParseError>
+        ensures value { Reads (read None (done (operands.leaf value codes (Some token.now))) self.now) result self.now }
+        ensures height { IfOk result (λ x. x.depth.height ≡ 1) }
+    {
+        Ok(node(self.alloc(), value, codes, token.at, NOTHING)?)
+    }
+
     /// A semicolon, or none where one is inserted.
+    #[tactic(auto, unfolding(crate::specs::Rules::semi, crate::specs::Words::sign))]
     pub fn semicolon(&mut self) -> Result<(), ParseError>
         ensures { Reads (read None rules.semi self.old) result self.new }
     {
@@ -147,7 +159,7 @@ impl<'a> Cursor<'a> {
     }
 
     /// A `break` or `continue` behind its word.
-    #[tactic(auto, unfolding(crate::specs::Rules::jump))]
+    #[tactic(auto, unfolding(crate::specs::Rules::jump, crate::specs::Rules::ended))]
     pub fn jump(&mut self, stmt: Stmt, state: State, token: &Token) -> Result<Said, ParseError>
         ensures value { Reads (read None (rules.jump stmt state (Some token.now)) self.old) result self.new }
         ensures height { IfOk result (λ x. x.depth.height ≡ 1) }
@@ -161,6 +173,7 @@ impl<'a> Cursor<'a> {
     }
 
     /// The end of a statement that begins here, over parts with these levels.
+    #[tactic(auto, unfolding(crate::specs::Rules::ended))]
     pub fn ended(
         &mut self,
         stmt: Stmt,
@@ -178,9 +191,10 @@ impl<'a> Cursor<'a> {
     }
 
     /// A property behind the expression in its brackets; the object begins here.
+    #[tactic(auto, unfolding(crate::specs::Rules::indexed))]
     pub fn indexed(
         &mut self,
-        value: Expr,
+        value: Boxed<Expr>,
         at: u32,
         depth: Depth,
         y: Operand,
@@ -195,7 +209,7 @@ impl<'a> Cursor<'a> {
     }
 
     /// A name before `in`, or before a token with which no expression goes on.
-    #[tactic(auto, unfolding(crate::specs::Rules::lone_name))]
+    #[tactic(auto, unfolding(crate::specs::Rules::lone_name, crate::specs::Words::sound))]
     pub fn named_alone(&mut self, codes: Items<FnCode>) -> Result<Operand, ParseError>
         requires { ahead.of ahead.is_name (first self.old None) ≡ true }
         ensures value { Reads (read None (rules.lone_name codes) self.old) result self.new }
@@ -211,6 +225,6 @@ impl<'a> Cursor<'a> {
         if self.goes_on() {
             return Err(ParseError::Shown(Fault::Nesting(token.at)));
         }
-        Ok(node(Expr::Name(name.clone()?), codes, token.at, NOTHING))
+        self.leaf(Expr::Name(name.clone()?), codes, token)
     }
 }

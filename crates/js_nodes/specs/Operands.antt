@@ -29,11 +29,11 @@ abbrev pub nothing : Depth
 nothing = record { height = 0; deepest = 0 }
 
 -- of two pieces beside each other, the first in order
-abbrev pub both : Depth → Depth → Depth
+unfoldable pub both : Depth → Depth → Depth
 both d e = cond (nat_lt d.height e.height) e d
 
 -- a node, or a pair of parentheses, that begins here, over its parts
-abbrev pub raised : ℕ → Depth → Depth
+unfoldable pub raised : ℕ → Depth → Depth
 raised at d = cond (nat_eq d.height 0) (record { height = 1; deepest = at }) (record { height = d.height + 1; deepest = d.deepest })
 
 -- A level is left for one node more on top.

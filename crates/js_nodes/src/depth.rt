@@ -21,6 +21,7 @@ pub const NOTHING: Depth = Depth {
 
 impl Depth {
     /// Of two pieces beside each other, this the first.
+    #[tactic(auto, unfolding(crate::specs::Operands::both))]
     pub fn both(self, other: Depth) -> Depth
         ensures value { result ≡ operands.both self other }
         ensures height { result.height ≡ max self.height other.height }
@@ -33,6 +34,7 @@ impl Depth {
     }
 
     /// Of a node, or a pair of parentheses, that begins here, over its parts.
+    #[tactic(auto, unfolding(crate::specs::Operands::raised))]
     pub fn raised(self, at: u32) -> Depth
         requires { self.height < 255 }
         ensures value { result ≡ operands.raised at self }

@@ -19,5 +19,5 @@ pub use depth::{Depth, NOTHING};
 pub use fault::{Fault, ParseError};
 pub use keyed::KeyedEntries;
 pub use names::Names;
-pub use operand::{Coded, Entries, Operand, Part, Row, node};
+pub use operand::{Coded, Entries, Operand, Part, Row, node, unboxed};
 pub use series::{Body, Cases, Decls, Said, Series, State, stmt_node};

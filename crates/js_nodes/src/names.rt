@@ -9,7 +9,7 @@ ghost use Rattle.js_nodes.specs.Pieces as pieces;
 use crate::series::State;
 use js_tree::Expr;
 use page_units::{NoMemory, Text};
-use sqlite_items::Items;
+use sqlite_items::{Boxed, Items};
 use std::alloc::Global;
 use std::collections::BTreeSet;
 use std::marker::Model;
@@ -91,10 +91,10 @@ pub(crate) fn with_name(sorted: BTreeSet<Text>, name: &Text) -> Result<BTreeSet<
 }
 
 /// The name that an expression is; the empty text where it is none.
-pub fn name_of(alloc: Global, value: Expr) -> Result<Text, NoMemory>
+pub fn name_of(alloc: Global, value: Boxed<Expr>) -> Result<Text, NoMemory>
     ensures { IfOk result (λ n. n ≡ operands.name_of value) }
 {
-    match value {
+    match value.into_inner() {
         Expr::Name(name) => Ok(name),
         _ => Text::of_units(Vec::new(alloc)),
     }

@@ -8,7 +8,7 @@ ghost use Rattle.js_nodes.specs.Pieces as pieces;
 use crate::depth::Depth;
 use crate::keyed::KeyedEntries;
 use crate::names::Names;
-use crate::operand::{Coded, Entries, Operand, Row, node};
+use crate::operand::{Coded, Entries, Operand, Row, node, unboxed};
 use crate::operators::{assigned, joined};
 use crate::series::{Body, Cases, Decls, Said, Series, State};
 use js_lexer::Kind;
@@ -23,14 +23,13 @@ pub fn member_node(alloc: Global, x: Operand, name: Text) -> Result<Operand, NoM
     ensures value { IfOk result (λ z. z ≡ operands.over (e.Member x.value name) x) }
     ensures height { IfOk result (λ z. z.depth.height ≡ x.depth.height + 1) }
 {
-    let object = Boxed::new(alloc, x.value)?;
-    Ok(node(Expr::Member(object, name), x.codes, x.at, x.depth))
+    node(alloc, Expr::Member(x.value, name), x.codes, x.at, x.depth)
 }
 
 /// A property whose key stands in brackets, of an expression that begins here.
 pub fn index_node(
     alloc: Global,
-    value: Expr,
+    value: Boxed<Expr>,
     at: u32,
     depth: Depth,
     y: Operand,
@@ -40,15 +39,19 @@ pub fn index_node(
     ensures value { IfOk result (λ z. z ≡ operands.operand (e.Index value y.value) y.codes at (operands.raised at (operands.both depth y.depth))) }
     ensures height { IfOk result (λ z. z.depth.height ≡ max depth.height y.depth.height + 1) }
 {
-    let object = Boxed::new(alloc, value)?;
-    let key = Boxed::new(alloc, y.value)?;
-    Ok(node(Expr::Index(object, key), y.codes, at, depth.both(y.depth)))
+    node(
+        alloc,
+        Expr::Index(value, y.value),
+        y.codes,
+        at,
+        depth.both(y.depth),
+    )
 }
 
 /// A call of an expression that begins here.
 pub fn call_node(
     alloc: Global,
-    value: Expr,
+    value: Boxed<Expr>,
     at: u32,
     depth: Depth,
     row: Row,
@@ -58,19 +61,19 @@ pub fn call_node(
     ensures value { IfOk result (λ z. z ≡ operands.operand (e.Call value row.values) row.codes at (operands.raised at (operands.both depth row.depth))) }
     ensures height { IfOk result (λ z. z.depth.height ≡ max depth.height row.depth.height + 1) }
 {
-    let callee = Boxed::new(alloc, value)?;
-    Ok(node(
-        Expr::Call(callee, row.values),
+    node(
+        alloc,
+        Expr::Call(value, row.values),
         row.codes,
         at,
         depth.both(row.depth),
-    ))
+    )
 }
 
 /// A `new` that stands here.
 pub fn new_node(
     alloc: Global,
-    value: Expr,
+    value: Boxed<Expr>,
     at: u32,
     depth: Depth,
     row: Row,
@@ -80,20 +83,20 @@ pub fn new_node(
     ensures value { IfOk result (λ z. z ≡ operands.operand (e.New value row.values) row.codes at (operands.raised at (operands.both depth row.depth))) }
     ensures height { IfOk result (λ z. z.depth.height ≡ max depth.height row.depth.height + 1) }
 {
-    let callee = Boxed::new(alloc, value)?;
-    Ok(node(
-        Expr::New(callee, row.values),
+    node(
+        alloc,
+        Expr::New(value, row.values),
         row.codes,
         at,
         depth.both(row.depth),
-    ))
+    )
 }
 
 /// What an operator makes of an expression that begins here and of what stands behind it.
 pub fn binary_node(
     alloc: Global,
     kind: &Kind,
-    value: Expr,
+    value: Boxed<Expr>,
     at: u32,
     depth: Depth,
     y: Operand,
@@ -103,15 +106,20 @@ pub fn binary_node(
     ensures value { IfOk result (λ z. z ≡ operands.operand (operators.joined kind.now value y.value) y.codes at (operands.raised at (operands.both depth y.depth))) }
     ensures height { IfOk result (λ z. z.depth.height ≡ max depth.height y.depth.height + 1) }
 {
-    let value = joined(alloc, kind, value, y.value)?;
-    Ok(node(value, y.codes, at, depth.both(y.depth)))
+    node(
+        alloc,
+        joined(kind, value, y.value),
+        y.codes,
+        at,
+        depth.both(y.depth),
+    )
 }
 
 /// An assignment to an expression that begins here.
 pub fn assign_node(
     alloc: Global,
     kind: &Kind,
-    value: Expr,
+    value: Boxed<Expr>,
     at: u32,
     depth: Depth,
     y: Operand,
@@ -121,14 +129,19 @@ pub fn assign_node(
     ensures value { IfOk result (λ z. z ≡ operands.operand (operators.assigned kind.now value y.value) y.codes at (operands.raised at (operands.both depth y.depth))) }
     ensures height { IfOk result (λ z. z.depth.height ≡ max depth.height y.depth.height + 1) }
 {
-    let value = assigned(alloc, kind, value, y.value)?;
-    Ok(node(value, y.codes, at, depth.both(y.depth)))
+    node(
+        alloc,
+        assigned(kind, value, y.value),
+        y.codes,
+        at,
+        depth.both(y.depth),
+    )
 }
 
 /// A comma behind an expression that begins here.
 pub fn comma_node(
     alloc: Global,
-    value: Expr,
+    value: Boxed<Expr>,
     at: u32,
     depth: Depth,
     y: Operand,
@@ -138,18 +151,22 @@ pub fn comma_node(
     ensures value { IfOk result (λ z. z ≡ operands.operand (e.Comma value y.value) y.codes at (operands.raised at (operands.both depth y.depth))) }
     ensures height { IfOk result (λ z. z.depth.height ≡ max depth.height y.depth.height + 1) }
 {
-    let first = Boxed::new(alloc, value)?;
-    let second = Boxed::new(alloc, y.value)?;
-    Ok(node(Expr::Comma(first, second), y.codes, at, depth.both(y.depth)))
+    node(
+        alloc,
+        Expr::Comma(value, y.value),
+        y.codes,
+        at,
+        depth.both(y.depth),
+    )
 }
 
 /// A conditional whose test begins here, with the levels of the test and of what stands behind the `?`.
 pub fn cond_node(
     alloc: Global,
-    test: Expr,
+    test: Boxed<Expr>,
     at: u32,
     depth: Depth,
-    yes: Expr,
+    yes: Boxed<Expr>,
     z: Operand,
 ) -> Result<Operand, NoMemory>
     requires left { depth.height < 255 }
@@ -157,10 +174,13 @@ pub fn cond_node(
     ensures value { IfOk result (λ v. v ≡ operands.operand (e.Cond test yes z.value) z.codes at (operands.raised at (operands.both depth z.depth))) }
     ensures height { IfOk result (λ v. v.depth.height ≡ max depth.height z.depth.height + 1) }
 {
-    let test = Boxed::new(alloc, test)?;
-    let yes = Boxed::new(alloc, yes)?;
-    let no = Boxed::new(alloc, z.value)?;
-    Ok(node(Expr::Cond(test, yes, no), z.codes, at, depth.both(z.depth)))
+    node(
+        alloc,
+        Expr::Cond(test, yes, z.value),
+        z.codes,
+        at,
+        depth.both(z.depth),
+    )
 }
 
 /// Expressions with one more.
@@ -169,7 +189,7 @@ pub fn more_values(values: Items<Expr>, depth: Depth, x: Operand) -> Result<Row,
     ensures height { IfOk result (λ r. r.depth.height ≡ max depth.height x.depth.height) }
 {
     let mut values = values;
-    values.push(x.value)?;
+    values.push(x.value.into_inner())?;
     Ok(Row {
         values,
         codes: x.codes,
@@ -189,7 +209,7 @@ pub fn more_entries(
 {
     let entries = entries.put(Entry {
         key,
-        value: x.value,
+        value: x.value.into_inner(),
     })?;
     Ok(Entries {
         entries,
@@ -218,7 +238,7 @@ pub struct Declared {
     /// Its name.
     pub name: Text,
     /// Its value, if it has one.
-    pub value: Option<Expr>,
+    pub value: Option<Boxed<Expr>>,
     /// The levels of the value.
     pub depth: Depth,
 }
@@ -237,7 +257,7 @@ pub fn more_decls(
     let mut decls = decls;
     decls.push(Decl {
         name: decl.name,
-        value: decl.value,
+        value: unboxed(decl.value),
     })?;
     Ok(Decls {
         decls,
@@ -251,7 +271,7 @@ pub fn more_cases(
     cases: Items<Case>,
     has_default: bool,
     depth: Depth,
-    test: Option<Expr>,
+    test: Option<Boxed<Expr>>,
     y: Series,
 ) -> Result<Cases, NoMemory>
     ensures value { IfOk result (λ c. c ≡ pieces.cases (cases ++ record { test = test; body = y.stmts } ∷ []) y.state has_default (operands.both depth y.depth)) }
@@ -259,7 +279,7 @@ pub fn more_cases(
 {
     let mut cases = cases;
     cases.push(Case {
-        test,
+        test: unboxed(test),
         body: y.stmts,
     })?;
     Ok(Cases {

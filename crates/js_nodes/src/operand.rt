@@ -1,5 +1,5 @@
 //! What was read of an expression, with the levels that it takes.
-ghost use Rattle.std.specs.Prelude.{◌≡◌, ◌<◌, ◌+◌, [], MatchOption};
+ghost use Rattle.std.specs.Prelude.{◌≡◌, ◌<◌, ◌+◌, [], MatchOption, IfOk};
 ghost use Rattle.js_nodes.specs.Operands as operands;
 ghost use Rattle.js_nodes.specs.Pieces as pieces;
 
@@ -9,14 +9,15 @@ use crate::keyed::KeyedEntries;
 use crate::operators::{is_delete, is_step};
 use js_lexer::Kind;
 use js_tree::{Expr, FnCode};
-use sqlite_items::Items;
+use page_units::NoMemory;
+use sqlite_items::{Boxed, Items};
 use std::alloc::Global;
 
 /// An expression.
 #[derive(Drop)]
 pub struct Operand {
-    /// What it is.
-    pub value: Expr,
+    /// What it is; in a box, since its drop is then one call.
+    pub value: Boxed<Expr>,
     /// The codes of all functions so far.
     pub codes: Items<FnCode>,
     /// The place of its first token, a parenthesis included.
@@ -51,7 +52,7 @@ pub struct Entries {
 #[derive(Drop)]
 pub struct Part {
     /// What it is, where it stands.
-    pub value: Option<Expr>,
+    pub value: Option<Boxed<Expr>>,
     /// The codes of all functions so far.
     pub codes: Items<FnCode>,
     /// Its levels.
@@ -67,17 +68,34 @@ pub struct Coded {
     pub depth: Depth,
 }
 
-/// A node, or a pair of parentheses, that begins here, over parts with these levels.
-pub fn node(value: Expr, codes: Items<FnCode>, at: u32, depth: Depth) -> Operand
+/// A node that begins here, over parts with these levels.
+pub fn node(
+    alloc: Global,
+    value: Expr,
+    codes: Items<FnCode>,
+    at: u32,
+    depth: Depth,
+) -> Result<Operand, NoMemory>
     requires { depth.height < 255 }
-    ensures value { result ≡ operands.operand value codes at (operands.raised at depth) }
-    ensures height { result.depth.height ≡ depth.height + 1 }
+    ensures value { IfOk result (λ x. x ≡ operands.operand value codes at (operands.raised at depth)) }
+    ensures height { IfOk result (λ x. x.depth.height ≡ depth.height + 1) }
 {
-    Operand {
+    let value = Boxed::new(alloc, value)?;
+    Ok(Operand {
         value,
         codes,
         at,
         depth: depth.raised(at),
+    })
+}
+
+/// What may be left out, as a statement holds it.
+pub fn unboxed(value: Option<Boxed<Expr>>) -> Option<Expr>
+    ensures { result ≡ value }
+{
+    match value {
+        Some(value) => Some(value.into_inner()),
+        None => None,
     }
 }
 
@@ -108,12 +126,26 @@ impl Entries {
 }
 
 impl Operand {
+    /// The same in parentheses, which begin here and take a level.
+    pub fn in_parentheses(self, at: u32) -> Operand
+        requires { self.depth.height < 255 }
+        ensures value { result ≡ operands.operand self.value self.codes at (operands.raised at self.depth) }
+        ensures height { result.depth.height ≡ self.depth.height + 1 }
+    {
+        Operand {
+            value: self.value,
+            codes: self.codes,
+            at,
+            depth: self.depth.raised(at),
+        }
+    }
+
     /// What is wrong with it as what is assigned.
     pub fn target_flaw(&self, room: u8) -> Option<Fault>
         ensures left { MatchOption result (self.now.depth.height < room) (λ _. Unit {0}) }
         ensures value { result ≡ operands.target_flaw room self.now }
     {
-        if self.value.is_target() {
+        if self.value.get().is_target() {
             self.depth.level_flaw(room)
         } else {
             Some(Fault::Syntax(self.at))
@@ -124,16 +156,16 @@ impl Operand {
     pub fn is_bare_name(&self) -> bool
         ensures { result ≡ operands.is_bare_name self.now }
     {
-        self.value.is_name() && self.depth.height == 1
+        self.value.get().is_name() && self.depth.height == 1
     }
 
     /// What is wrong with it behind this operator.
     pub fn prefix_flaw(&self, kind: &Kind) -> Option<Fault>
         ensures { result ≡ operands.prefix_flaw kind.now self.now }
     {
-        if is_step(kind) && !self.value.is_target() {
+        if is_step(kind) && !self.value.get().is_target() {
             Some(Fault::Syntax(self.at))
-        } else if is_delete(kind) && self.value.is_name() {
+        } else if is_delete(kind) && self.value.get().is_name() {
             Some(Fault::Syntax(self.depth.deepest))
         } else {
             None

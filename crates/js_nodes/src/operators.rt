@@ -1,11 +1,10 @@
 //! The operators of expressions (ECMA-262 5.1, 11.3 to 11.13).
-ghost use Rattle.std.specs.Prelude.{◌≡◌, ◌≤◌, IfOk};
+ghost use Rattle.std.specs.Prelude.{◌≡◌, ◌≤◌};
 ghost use Rattle.js_nodes.specs.Operators as operators;
 
 use js_lexer::{Kind, Punct, Word};
 use js_tree::{BinOp, Expr, StepOp, UnOp};
 use sqlite_items::Boxed;
-use std::alloc::{AllocError, Global};
 
 /// How tightly an operator between two operands binds: the tightest 1, the loosest 10, and 0 for what is none.
 #[tactic(auto, unfolding(crate::specs::Operators::binds))]
@@ -62,15 +61,13 @@ fn binary_op(kind: &Kind) -> BinOp
 
 /// What an operator between two operands makes of them.
 #[tactic(auto, unfolding(crate::specs::Operators::joined))]
-pub fn joined(alloc: Global, kind: &Kind, x: Expr, y: Expr) -> Result<Expr, AllocError>
-    ensures { IfOk result (λ z. z ≡ operators.joined kind.now x y) }
+pub fn joined(kind: &Kind, x: Boxed<Expr>, y: Boxed<Expr>) -> Expr
+    ensures { result ≡ operators.joined kind.now x y }
 {
-    let left = Boxed::new(alloc, x)?;
-    let right = Boxed::new(alloc, y)?;
     match kind {
-        Kind::Punct(Punct::And) => Ok(Expr::And(left, right)),
-        Kind::Punct(Punct::Or) => Ok(Expr::Or(left, right)),
-        _ => Ok(Expr::Binary(binary_op(kind), left, right)),
+        Kind::Punct(Punct::And) => Expr::And(x, y),
+        Kind::Punct(Punct::Or) => Expr::Or(x, y),
+        _ => Expr::Binary(binary_op(kind), x, y),
     }
 }
 
@@ -119,14 +116,12 @@ fn assignment_op(kind: &Kind) -> BinOp
 
 /// What an assignment makes of its target and value.
 #[tactic(auto, unfolding(crate::specs::Operators::assigned))]
-pub fn assigned(alloc: Global, kind: &Kind, x: Expr, y: Expr) -> Result<Expr, AllocError>
-    ensures { IfOk result (λ z. z ≡ operators.assigned kind.now x y) }
+pub fn assigned(kind: &Kind, x: Boxed<Expr>, y: Boxed<Expr>) -> Expr
+    ensures { result ≡ operators.assigned kind.now x y }
 {
-    let target = Boxed::new(alloc, x)?;
-    let value = Boxed::new(alloc, y)?;
     match kind {
-        Kind::Punct(Punct::Assign) => Ok(Expr::Assign(target, value)),
-        _ => Ok(Expr::AssignOp(assignment_op(kind), target, value)),
+        Kind::Punct(Punct::Assign) => Expr::Assign(x, y),
+        _ => Expr::AssignOp(assignment_op(kind), x, y),
     }
 }
 
@@ -195,13 +190,12 @@ fn unary_op(kind: &Kind) -> UnOp
 }
 
 /// What an operator before its operand makes of it.
-pub fn prefixed(alloc: Global, kind: &Kind, x: Expr) -> Result<Expr, AllocError>
-    ensures { IfOk result (λ z. z ≡ operators.prefix_value kind.now x) }
+pub fn prefixed(kind: &Kind, x: Boxed<Expr>) -> Expr
+    ensures { result ≡ operators.prefix_value kind.now x }
 {
-    let operand = Boxed::new(alloc, x)?;
     if is_step(kind) {
-        Ok(Expr::Step(step_op(kind), true, operand))
+        Expr::Step(step_op(kind), true, x)
     } else {
-        Ok(Expr::Unary(unary_op(kind), operand))
+        Expr::Unary(unary_op(kind), x)
     }
 }

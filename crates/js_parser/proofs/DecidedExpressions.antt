@@ -22,6 +22,9 @@ use Rattle.js_parser.proofs.DecidedKinds.{operand_begins, left_not_prefix}
 use Rattle.js_parser.proofs.DecidedMay.{prefix_may, postfix_may, unary_may, operation_may, comma_may}
 use Rattle.js_parser.proofs.DecidedLevels.{Whole, Known}
 use Rattle.js_parser.proofs.DecidedOperands.{left_whole}
+use Rattle.js_cursor.specs.Rules as rules
+use Rattle.js_cursor.specs.Words as words
+use Rattle.js_parser.specs.Expressions as expression_rules
 
 -- Where no level is left each beginning shows a fault.
 deep_flagged : (a b : Bool) (f g : Fault) → is_some (cond a (Some f) (cond b (Some g) None)) ≡ (a || b)
@@ -35,6 +38,7 @@ operand_deep = record { decided = tt; eats = tt; begin = λ t. deep_flagged (of 
 
 -- Behind a prefix operator's operand nothing is read.
 prefix_end_decided : (context : Context) (t : Next) (x : Operand) (flaw : Option Fault) → Decided None (prefix_end context t x flaw)
+unfolding prefix_end
 prefix_end_decided context t x None = tt
 prefix_end_decided context t x (Some f) = tt
 
@@ -46,12 +50,12 @@ no_operator context n = eqb-zero-suc n
 -- ---- a name alone
 
 lone_name_decided : (codes : List FnCode) → Decided None (lone_name codes)
-unfolding lone_name
+unfolding lone_name words.sound
 lone_name_decided codes = (sound_decided unless_name (of is_name) refl, λ t. (barred_decided None _, λ _. tt))
 
 module _ (below : Level) (known : Known below) where
   postfix_decided : (room : ℕ) (codes : List FnCode) → Decided None (postfix room below codes)
-  unfolding postfix
+  unfolding postfix rules.stepped_or_not words.sound words.takes
   postfix_decided room codes = (
     (left_whole below known room codes).decided,
     λ x. (
@@ -62,18 +66,18 @@ module _ (below : Level) (known : Known below) where
   )
 
   postfix_eats : (room : ℕ) (codes : List FnCode) → Eats (postfix room below codes)
-  unfolding postfix
+  unfolding postfix rules.stepped_or_not words.sound words.takes
   postfix_eats room codes = inl (left_whole below known room codes).eats
 
   prefix_decided : (room : ℕ) (context : Context) (codes : List FnCode) → Decided None (prefix room below context codes)
-  unfolding prefix
+  unfolding prefix prefix_end words.deeper words.sound
   prefix_decided room context codes = (
     deeper_decided room (of is_prefix) refl,
     λ t. ((known.binary context 0 codes).decided, λ x. prefix_end_decided context t x (flaw_of_prefix t x)),
   )
 
   prefix_eats : (room : ℕ) (context : Context) (codes : List FnCode) → Eats (prefix room below context codes)
-  unfolding prefix
+  unfolding prefix prefix_end words.deeper words.sound
   prefix_eats room context codes = inl (tt, tt)
 
   unary_whole : (room : ℕ) (context : Context) (codes : List FnCode) → Whole operand_begins (unary room below context codes)
@@ -89,12 +93,12 @@ module _ (below : Level) (known : Known below) where
   }
 
   operation_decided : (room : ℕ) (context : Context) (n : ℕ) (x : Operand) → Decided None (operation room below context (suc n) x)
-  unfolding operation
+  unfolding operation words.sound words.takes
   operation_decided room context n x =
       (takes_decided (binds_at context (suc n)) (level_flaw room x.depth) (no_operator context n), λ t. ((known.binary context (suc n - 1) x.codes).decided, λ y. tt))
 
   operation_eats : (room : ℕ) (context : Context) (n : ℕ) (x : Operand) → Eats (operation room below context n x)
-  unfolding operation
+  unfolding operation words.sound words.takes
   operation_eats room context n x = inl (tt, tt)
 
   pub operation_turns : (room : ℕ) (context : Context) (n : ℕ) (x : Operand) → Decided None (again (λ _ t. binds_at context (suc n) t) (operation room below context (suc n)) x)
@@ -109,7 +113,7 @@ module _ (below : Level) (known : Known below) where
       record { decided = (i.decided, operation_turns room context n); eats = inl i.eats; begin = i.begin }
 
   pub conditional_whole : (room : ℕ) (context : Context) (codes : List FnCode) → Whole operand_begins (conditional room below context codes)
-  unfolding conditional
+  unfolding conditional expression_rules.branches expression_rules.chosen expression_rules.other_branch words.sign words.sound words.takes
   conditional_whole room context codes =
       let i = binary_whole room context 10 codes in
       record {
@@ -132,7 +136,7 @@ module _ (below : Level) (known : Known below) where
       }
 
   pub assign_whole : (room : ℕ) (context : Context) (codes : List FnCode) → Whole operand_begins (assign room below context codes)
-  unfolding assign
+  unfolding assign expression_rules.assigned_or_not words.sound words.takes
   assign_whole room context codes =
       let i = conditional_whole room context codes in
       record {
@@ -149,12 +153,12 @@ module _ (below : Level) (known : Known below) where
       }
 
   comma_decided : (room : ℕ) (context : Context) (x : Operand) → Decided None (comma room below context x)
-  unfolding comma
+  unfolding comma words.sound words.takes
   comma_decided room context x =
       (takes_decided (shows p.Comma) (level_flaw room x.depth) (no_sign p.Comma), λ _. ((known.assign context x.codes).decided, λ y. tt))
 
   comma_eats : (room : ℕ) (context : Context) (x : Operand) → Eats (comma room below context x)
-  unfolding comma
+  unfolding comma words.sound words.takes
   comma_eats room context x = inl (tt, tt)
 
   pub comma_turns : (room : ℕ) (context : Context) (x : Operand) → Decided None (again (λ _ t. shows p.Comma t) (comma room below context) x)

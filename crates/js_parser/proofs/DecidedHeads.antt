@@ -24,6 +24,8 @@ use Rattle.js_parser.specs.Heads.{head_part, for_rest, for_each, for_variables, 
 use Rattle.js_parser.proofs.DecidedWords.{barred_and, no_word, no_sign, may_takes, takes_decided, sign_decided, word_decided, name_decided}
 use Rattle.js_parser.proofs.DecidedKinds.{sign_no_word, var_no_semicolon}
 use Rattle.js_parser.proofs.DecidedLevels.{Known}
+use Rattle.js_cursor.specs.Words as words
+use Rattle.js_parser.specs.Heads as heads
 
 -- What is neither of two isn't the second.
 neither : (a b : Bool) → not (a || b) ≡ true → b ≡ false
@@ -32,7 +34,7 @@ neither false b h = turned b h
 
 module _ (below : Level) (known : Known below) where
   part_decided : (closer : Closer) (end : Punct) (codes : List FnCode) → Decided None (head_part below closer end codes)
-  unfolding head_part
+  unfolding head_part words.sign
   part_decided closer end codes = (
     λ t h. turned (shows end t) h,
     (sign_decided end, λ _. tt),
@@ -40,7 +42,7 @@ module _ (below : Level) (known : Known below) where
   )
 
   rest_decided : (inside : Inside) (t : Next) (head : Option Stmt) (added : State) (depth : Depth) → Decided None (for_rest below inside t head added depth)
-  unfolding for_rest
+  unfolding for_rest heads.for_body
   rest_decided inside t head added depth = (
     part_decided c.Semicolon p.Semicolon added.codes,
     λ y. (
@@ -50,14 +52,14 @@ module _ (below : Level) (known : Known below) where
   )
 
   each_decided : (inside : Inside) (t : Next) (n : List ℕ) (added : State) → Decided None (for_each below inside t n added)
-  unfolding for_each
+  unfolding for_each heads.each_body words.sign
   each_decided inside t n added = (
     (known.expr (context c.Paren) added.codes).decided,
     λ x. (sign_decided p.RightParen, λ _. ((known.statement (turning inside) (state x.codes added.vars)).decided, λ v. tt)),
   )
 
   head_variables_decided : (inside : Inside) (t : Next) (at : ℕ) (added : State) → Decided None (for_variables below inside t at added)
-  unfolding for_variables
+  unfolding for_variables heads.for_declared heads.for_listed heads.for_named words.name words.sign words.sound words.word
   head_variables_decided inside t at added = (
     name_decided,
     λ n. (
@@ -71,7 +73,7 @@ module _ (below : Level) (known : Known below) where
   )
 
   head_expression_decided : (room : ℕ) (inside : Inside) (t : Next) (vars : List (List ℕ)) (x : Operand) → Decided None (for_expression room below inside t vars x)
-  unfolding for_expression
+  unfolding for_expression heads.for_first words.sound words.takes
   head_expression_decided room inside t vars x = (
     λ u h. barred_and (says w.In u) (is_bare_name x) (sign_no_word p.Semicolon w.In u (sym (may_takes (shows p.Semicolon) (level_flaw (room - 1) x.depth) u) ∙ h)),
     (barred_and (says w.In None) (is_bare_name x) (no_word w.In), λ _. each_decided inside t (name_of x.value) (state x.codes vars)),
@@ -79,7 +81,7 @@ module _ (below : Level) (known : Known below) where
   )
 
   head_decided : (room : ℕ) (inside : Inside) (t : Next) (added : State) → Decided None (for_head room below inside t added)
-  unfolding for_head
+  unfolding for_head words.sign
   head_decided room inside t added = (
     var_no_semicolon,
     (sign_decided p.Semicolon, λ _. rest_decided inside t None added nothing),
@@ -91,5 +93,5 @@ module _ (below : Level) (known : Known below) where
   )
 
   pub for_decided : (room : ℕ) (inside : Inside) (added : State) (t : Next) → Decided None (for_statement room below inside added t)
-  unfolding for_statement
+  unfolding for_statement words.sign
   for_decided room inside added t = (sign_decided p.LeftParen, λ _. head_decided room inside t added)

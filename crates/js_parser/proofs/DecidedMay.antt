@@ -31,6 +31,12 @@ use Rattle.js_nodes.specs.Classes.{requires_part, opens}
 use Rattle.js_parser.specs.Sources.{declaration, statement, source}
 use Rattle.js_parser.proofs.DecidedWords.{may_sound, may_takes, may_deeper, may_too_deep}
 use Rattle.js_parser.proofs.DecidedKinds.{at_sign, part_opens, primary_begins, left_begins, operand_begins, prefix_or_left, statement_begins, source_begins}
+use Rattle.js_cursor.specs.Rules as rules
+use Rattle.js_cursor.specs.Words as words
+use Rattle.js_parser.specs.Chains as chains
+use Rattle.js_parser.specs.Primary as primaries
+use Rattle.js_parser.specs.Sources as sources
+use Rattle.js_parser.specs.Statements as statement_rules
 
 -- A fault of what begins something adds no other beginning.
 primary_flagged : (a c d e : Bool) (f g : Fault) → (c ≡ true → e ≡ true) → (is_some (cond a (Some f) (cond (c && d) (Some g) None)) || e) ≡ (a || e)
@@ -49,35 +55,37 @@ primary_here room t = primary_flagged (of is_left_out_name t || of is_slash t) (
 
 -- A statement that its first token tells begins so.
 pub opening_may : (room : ℕ) (inside : Inside) (t : Next) → may (sound (too_deep room (of requires_part)) (opens inside)) t ≡ opens inside t
+unfolding sound
 opening_may room inside t = may_too_deep room (of requires_part) (opens inside) t (part_opens inside t)
 
 module _ (below : Level) where
   -- What each expression begins with.
   pub primary_may : (room : ℕ) (codes : List FnCode) (t : Next) → may (primary room below codes) t ≡ primary_begins t
-  unfolding primary
+  unfolding primary primaries.primary_by sound
   primary_may room codes t = may_sound (primary_flaw room) (of begins_primary) t ∙ primary_here room t
 
   pub link_may : (class : Kind → Bool) (room : ℕ) (x : Operand) (t : Next) → may (link class room below x) t ≡ of class t
-  unfolding link
+  unfolding link chains.call chains.index chains.link_by chains.link_kind rules.indexed rules.member sound words.sign words.takes
   link_may class room x t = may_takes (of class) (level_flaw room x.depth) t
 
   pub construction_may : (room : ℕ) (codes : List FnCode) (t : Next) → may (construction room below codes) t ≡ says w.New t
-  unfolding construction
+  unfolding construction chains.new_arguments sound words.deeper words.sign
   construction_may room codes t = may_deeper room (says w.New) t
 
   pub head_may : (room : ℕ) (codes : List FnCode) (t : Next) → may (head room below codes) t ≡ left_begins t
+  unfolding head
   head_may room codes t = ap (λ (b : Bool). b || may (primary room below codes) t) (construction_may room codes t) ∙ ap (λ (b : Bool). says w.New t || b) (primary_may room codes t)
 
   pub left_may : (room : ℕ) (codes : List FnCode) (t : Next) → may (left room below codes) t ≡ left_begins t
-  unfolding left
+  unfolding left head
   left_may room codes t = head_may room codes t
 
   pub postfix_may : (room : ℕ) (codes : List FnCode) (t : Next) → may (postfix room below codes) t ≡ left_begins t
-  unfolding postfix
+  unfolding postfix rules.stepped_or_not sound words.takes
   postfix_may room codes t = left_may room codes t
 
   pub prefix_may : (room : ℕ) (context : Context) (codes : List FnCode) (t : Next) → may (prefix room below context codes) t ≡ of is_prefix t
-  unfolding prefix
+  unfolding prefix rules.prefix_end sound words.deeper
   prefix_may room context codes t = may_deeper room (of is_prefix) t
 
   pub unary_may : (room : ℕ) (context : Context) (codes : List FnCode) (t : Next) → may (unary room below context codes) t ≡ operand_begins t
@@ -85,39 +93,39 @@ module _ (below : Level) where
   unary_may room context codes t = ap (λ (b : Bool). b || may (postfix room below codes) t) (prefix_may room context codes t) ∙ (ap (λ (b : Bool). of is_prefix t || b) (postfix_may room codes t) ∙ prefix_or_left t)
 
   pub operation_may : (room : ℕ) (context : Context) (n : ℕ) (x : Operand) (t : Next) → may (operation room below context n x) t ≡ binds_at context n t
-  unfolding operation
+  unfolding operation sound words.takes
   operation_may room context n x t = may_takes (binds_at context n) (level_flaw room x.depth) t
 
   pub comma_may : (room : ℕ) (context : Context) (x : Operand) (t : Next) → may (comma room below context x) t ≡ shows p.Comma t
-  unfolding comma
+  unfolding comma sound words.takes
   comma_may room context x t = may_takes (shows p.Comma) (level_flaw room x.depth) t
 
   -- What the parts of statements begin with.
   pub decl_may : (room : ℕ) (context : Context) (d : Decls) (t : Next) → may (decl_more room below context d) t ≡ shows p.Comma t
-  unfolding decl_more
+  unfolding decl_more sound statement_rules.initial words.deeper words.name words.sign
   decl_may room context d t = refl
 
   pub catch_may : (inside : Inside) (u : Next) (y : Series) (t : Next) → may (catch_part below inside u y) t ≡ says w.Catch t
-  unfolding catch_part
+  unfolding catch_part sound statement_rules.block statement_rules.braced statement_rules.caught words.name words.sign words.word
   catch_may inside u y t = refl
 
   pub finally_may : (inside : Inside) (u : Next) (y : Series) (t : Next) → may (finally_part below inside u y) t ≡ says w.Finally t
-  unfolding finally_part
+  unfolding finally_part statement_rules.block statement_rules.braced words.sign words.word
   finally_may inside u y t = refl
 
   pub case_may : (inside : Inside) (y : Cases) (t : Next) → may (case_part below inside y) t ≡ (says w.Case t || (says w.Default t && not y.has_default))
-  unfolding case_part
+  unfolding case_part statement_rules.case_clause statement_rules.default_clause words.sign words.word
   case_may inside y t = refl
 
   pub declaration_may : (b : Body) (t : Next) → may (declaration below b) t ≡ says w.Function t
-  unfolding declaration
+  unfolding declaration sound words.name
   declaration_may b t = refl
 
   -- What statements and source elements begin with.
   pub statement_may : (room : ℕ) (inside : Inside) (added : State) (t : Next) → may (statement room below inside added) t ≡ statement_begins inside t
-  unfolding statement
+  unfolding statement sound sources.statement_by sources.told_statement
   statement_may room inside added t = ap (λ (b : Bool). b || begins_statement t) (opening_may room inside t)
 
   pub source_may : (room : ℕ) (inside : Inside) (b : Body) (t : Next) → may (source room below inside b) t ≡ source_begins inside t
-  unfolding source declaration
+  unfolding source declaration sound words.name
   source_may room inside b t = ap (λ (b : Bool). says w.Function t || b) (statement_may room inside b.state t)

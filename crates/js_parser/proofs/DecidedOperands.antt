@@ -31,24 +31,29 @@ use Rattle.js_parser.proofs.DecidedWords.{sound_decided, takes_decided, deeper_d
 use Rattle.js_parser.proofs.DecidedKinds.{left_begins, primary_not_new, source_in_block, no_block}
 use Rattle.js_parser.proofs.DecidedMay.{primary_may, link_may, construction_may, head_may}
 use Rattle.js_parser.proofs.DecidedLevels.{Whole, Known}
+use Rattle.js_cursor.specs.Rules as rules
+use Rattle.js_cursor.specs.Words as words
+use Rattle.js_parser.specs.Chains as chains
 
 -- ---- functions (ECMA-262 5.1, section 13)
 
 -- A parameter is one token.
 parameter_decided : (names : List (List ℕ)) → Decided None (parameter names)
+unfolding parameter words.sound
 parameter_decided names = (sound_decided (twice names) (of is_name) refl, λ _. tt)
 
 -- Each loop goes on just where one turn more begins.
 pub parameter_turns : (names : List (List ℕ)) → Decided None (again (λ _ t. shows p.Comma t) more_parameters names)
+unfolding more_parameters parameter words.sign words.sound
 parameter_turns names = (λ _. no_sign p.Comma, λ y t h. h, λ _. inl (inl tt), λ y. (sign_decided p.Comma, λ _. (parameter_decided y, λ _. tt)))
 
 some_parameters_decided : Decided None some_parameters
-unfolding some_parameters
+unfolding some_parameters more_parameters parameter words.sign words.sound
 some_parameters_decided =
     (parameter_decided [], λ n. (parameter_turns (n ∷ []), λ names. (sign_decided p.RightParen, λ _. tt)))
 
 parameters_decided : Decided None parameters
-unfolding parameters
+unfolding parameters words.sign
 parameters_decided = (sign_decided p.LeftParen, λ _. (λ t h. turned (shows p.RightParen t) h, (sign_decided p.RightParen, λ _. tt), (tt, λ _. some_parameters_decided)))
 
 -- What is so isn't otherwise.
@@ -66,7 +71,7 @@ module _ (below : Level) (known : Known below) where
   )
 
   body_decided : (codes : List FnCode) → Decided None (function_body below codes)
-  unfolding function_body
+  unfolding function_body words.sign
   body_decided codes =
       (sign_decided p.LeftBrace, λ _. (source_turns (body [] (state codes []) [] nothing), λ b. (sign_decided p.RightBrace, λ _. tt)))
 
@@ -75,7 +80,7 @@ module _ (below : Level) (known : Known below) where
   code_decided name codes = (parameters_decided, λ _. (body_decided _, λ b. tt))
 
   function_decided : (codes : List FnCode) (t : Next) → Decided None (function below codes t)
-  unfolding function
+  unfolding function words.name words.sound
   function_decided codes t = (
     (λ u h. no_paren (shows p.LeftParen u) h, (tt, λ _. (name_decided, λ n. tt)), (tt, λ _. tt)),
     λ n. (code_decided n codes, λ all. tt),
@@ -84,47 +89,52 @@ module _ (below : Level) (known : Known below) where
   -- ---- lists and objects
 
   item_decided : (x : Context) (r : Row) → Decided None (item below x r)
+  unfolding item
   item_decided x r = ((known.assign x r.codes).decided, λ y. tt)
 
   list_more_decided : (r : Row) → Decided None (list_more below r)
+  unfolding item list_more words.sign
   list_more_decided r = (sign_decided p.Comma, λ _. (λ t h. turned (shows p.RightBracket t) h, (tt, λ _. tt), (tt, λ _. item_decided (context c.Bracket) r)))
 
   pub list_turns : (r : Row) → Decided None (again (λ _ t. shows p.Comma t) (list_more below) r)
+  unfolding item list_more words.sign
   list_turns r = (λ _. no_sign p.Comma, λ y t h. h, λ _. inl (inl tt), list_more_decided)
 
   list_items_decided : (codes : List FnCode) → Decided None (list_items below codes)
-  unfolding list_items
+  unfolding list_items item list_more words.sign
   list_items_decided codes =
       (item_decided (context c.Bracket) (row [] codes nothing), λ r. (list_turns r, λ r. (sign_decided p.RightBracket, λ _. tt)))
 
   list_decided : (codes : List FnCode) → Decided None (list below codes)
-  unfolding list
+  unfolding list words.sign
   list_decided codes = (λ t h. turned (shows p.RightBracket t) h, (sign_decided p.RightBracket, λ _. tt), (tt, λ _. list_items_decided codes))
 
   entry_decided : (room : ℕ) (o : Entries) → Decided None (entry room below o)
-  unfolding entry
+  unfolding entry words.sound
   entry_decided room o = (
     sound_decided (key_flaw room o.entries) (of is_key) refl,
     λ t. (sound_decided (accessor_flaw t) (shows p.Colon) (no_sign p.Colon), λ _. ((known.assign (context c.Brace) o.codes).decided, λ x. tt)),
   )
 
   object_more_decided : (room : ℕ) (o : Entries) → Decided None (object_more room below o)
+  unfolding object_more words.sign
   object_more_decided room o = (sign_decided p.Comma, λ _. (λ t h. turned (shows p.RightBrace t) h, (tt, λ _. tt), (tt, λ _. entry_decided room o)))
 
   pub object_turns : (room : ℕ) (o : Entries) → Decided None (again (λ _ t. shows p.Comma t) (object_more room below) o)
+  unfolding object_more words.sign
   object_turns room o = (λ _. no_sign p.Comma, λ y t h. h, λ _. inl (inl tt), object_more_decided room)
 
   object_entries_decided : (room : ℕ) (codes : List FnCode) → Decided None (object_entries room below codes)
-  unfolding object_entries
+  unfolding object_entries object_more words.sign
   object_entries_decided room codes =
       (entry_decided room _, λ o. (object_turns room o, λ o. (sign_decided p.RightBrace, λ _. tt)))
 
   object_decided : (room : ℕ) (codes : List FnCode) → Decided None (object room below codes)
-  unfolding object
+  unfolding object words.sign
   object_decided room codes = (λ t h. turned (shows p.RightBrace t) h, (sign_decided p.RightBrace, λ _. tt), (tt, λ _. object_entries_decided room codes))
 
   parens_decided : (codes : List FnCode) (t : Next) → Decided None (parens below codes t)
-  unfolding parens
+  unfolding parens words.sign
   parens_decided codes t = ((known.expr (context c.Paren) codes).decided, λ x. (sign_decided p.RightParen, λ _. tt))
 
   -- ---- primary expressions
@@ -145,57 +155,62 @@ module _ (below : Level) (known : Known below) where
   primary_kind_decided room codes t _ = tt
 
   primary_by_decided : (room : ℕ) (codes : List FnCode) (t : Next) → Decided None (primary_by room below codes t)
+  unfolding primary_by
   primary_by_decided room codes None = tt
   primary_by_decided room codes (Some t) = primary_kind_decided room codes (Some t) t.kind
 
   pub primary_decided : (room : ℕ) (codes : List FnCode) → Decided None (primary room below codes)
-  unfolding primary
+  unfolding primary primary_by words.sound
   primary_decided room codes = (sound_decided (primary_flaw room) (of begins_primary) refl, primary_by_decided room codes)
 
   primary_eats : (room : ℕ) (codes : List FnCode) → Eats (primary room below codes)
-  unfolding primary
+  unfolding primary primary_by words.sound
   primary_eats room codes = inl (tt, tt)
 
   -- ---- left-hand-side expressions
 
   pub argument_turns : (r : Row) → Decided None (again (λ _ t. shows p.Comma t) (argument_more below) r)
+  unfolding argument_more item words.sign
   argument_turns r = (λ _. no_sign p.Comma, λ y t h. h, λ _. inl (inl tt), λ y. (sign_decided p.Comma, λ _. item_decided (context c.Paren) y))
 
   some_arguments_decided : (codes : List FnCode) → Decided None (some_arguments below codes)
-  unfolding some_arguments
+  unfolding some_arguments argument_more item words.sign
   some_arguments_decided codes =
       (item_decided (context c.Paren) (row [] codes nothing), λ r. (argument_turns r, λ r. (sign_decided p.RightParen, λ _. tt)))
 
   arguments_decided : (codes : List FnCode) → Decided None (arguments below codes)
-  unfolding arguments
+  unfolding arguments words.sign
   arguments_decided codes = (λ t h. turned (shows p.RightParen t) h, (sign_decided p.RightParen, λ _. tt), (tt, λ _. some_arguments_decided codes))
 
   index_decided : (x : Operand) → Decided None (index below x)
+  unfolding index rules.indexed words.sign
   index_decided x = ((known.expr (context c.Bracket) x.codes).decided, λ y. (sign_decided p.RightBracket, λ _. tt))
 
   call_decided : (x : Operand) → Decided None (call below x)
+  unfolding call
   call_decided x = (arguments_decided x.codes, λ r. tt)
 
   link_kind_decided : (x : Operand) (kind : Kind) → Decided None (link_kind below x kind)
-  unfolding member_name
+  unfolding member_name call index link_kind rules.indexed rules.member words.sign
   link_kind_decided x (k.Punct p.Dot) = ((refl, λ _. tt), λ _. tt)
   link_kind_decided x (k.Punct p.LeftBracket) = index_decided x
   link_kind_decided x _ = call_decided x
 
   link_by_decided : (x : Operand) (t : Next) → Decided None (link_by below x t)
+  unfolding call index link_by link_kind rules.indexed rules.member words.sign
   link_by_decided x None = tt
   link_by_decided x (Some t) = link_kind_decided x t.kind
 
   pub link_decided : (class : Kind → Bool) (room : ℕ) (x : Operand) → Decided None (link class room below x)
-  unfolding link
+  unfolding link call index link_by link_kind rules.indexed rules.member words.sign words.sound words.takes
   link_decided class room x = (takes_decided (of class) (level_flaw room x.depth) refl, link_by_decided x)
 
   pub link_eats : (class : Kind → Bool) (room : ℕ) (x : Operand) → Eats (link class room below x)
-  unfolding link
+  unfolding link call index link_by link_kind rules.indexed rules.member words.sign words.sound words.takes
   link_eats class room x = inl (tt, tt)
 
   construction_decided : (room : ℕ) (codes : List FnCode) → Decided None (construction room below codes)
-  unfolding construction
+  unfolding construction chains.new_arguments words.deeper words.sign words.sound
   construction_decided room codes = (
     deeper_decided room (says w.New) (no_word w.New),
     λ t. (
@@ -208,10 +223,11 @@ module _ (below : Level) (known : Known below) where
   )
 
   construction_eats : (room : ℕ) (codes : List FnCode) → Eats (construction room below codes)
-  unfolding construction
+  unfolding construction chains.new_arguments words.deeper words.sign words.sound
   construction_eats room codes = inl (tt, tt)
 
   head_decided : (room : ℕ) (codes : List FnCode) → Decided None (head room below codes)
+  unfolding head
   head_decided room codes = (
     λ t h. construction_may below room codes t ∙ primary_not_new t (sym (primary_may below room codes t) ∙ h),
     construction_decided room codes,
@@ -222,11 +238,11 @@ module _ (below : Level) (known : Known below) where
   link_turns class room x = (λ _. refl, λ y t h. sym (link_may below class room y t) ∙ h, link_eats class room, link_decided class room)
 
   pub callee_decided : (room : ℕ) (codes : List FnCode) → Decided None (callee room below codes)
-  unfolding callee
+  unfolding callee head
   callee_decided room codes = (head_decided room codes, link_turns is_access room)
 
   pub left_whole : (room : ℕ) (codes : List FnCode) → Whole left_begins (left room below codes)
-  unfolding left
+  unfolding left head
   left_whole room codes = record {
     decided = (head_decided room codes, link_turns is_link room);
     eats = inl (construction_eats room codes, primary_eats room codes);

@@ -30,6 +30,8 @@ use Rattle.js_parser.proofs.DecidedOperands.{code_decided, callee_decided}
 use Rattle.js_parser.proofs.DecidedExpressions.{operand_deep, binary_whole, assign_whole, expr_whole, first_decided}
 use Rattle.js_parser.proofs.DecidedStatements.{block_statement_decided, variables_decided, var_decided, if_decided, do_decided, while_decided, jump_decided, return_decided, throw_decided, switch_decided, try_decided, expression_decided, expression_eats}
 use Rattle.js_parser.proofs.DecidedHeads.{for_decided}
+use Rattle.js_cursor.specs.Words as words
+use Rattle.js_parser.specs.Sources as sources
 
 -- ---- where no level is left
 
@@ -94,11 +96,12 @@ module _ (below : Level) (known : Known below) where
   kind_decided room inside added t _ = tt
 
   by_decided : (room : ℕ) (inside : Inside) (added : State) (t : Next) → Decided None (statement_by room below inside added t)
+  unfolding statement_by
   by_decided room inside added None = tt
   by_decided room inside added (Some t) = kind_decided room inside added (Some t) t.kind
 
   pub statement_whole : (room : ℕ) (inside : Inside) (added : State) → Whole (statement_begins inside) (statement room below inside added)
-  unfolding statement
+  unfolding statement sources.told_statement statement_by words.sound
   statement_whole room inside added = record {
     decided = (
       λ t h. opening_may room inside t ∙ other_not_opening inside t h,
@@ -112,11 +115,11 @@ module _ (below : Level) (known : Known below) where
   -- ---- source elements
 
   declaration_decided : (b : Body) → Decided None (declaration below b)
-  unfolding declaration
+  unfolding declaration words.name words.sound
   declaration_decided b = (no_word w.Function, λ t. (name_decided, λ n. (code_decided below known (Some n) b.state.codes, λ all. tt)))
 
   pub source_whole : (room : ℕ) (inside : Inside) (b : Body) → Whole (source_begins inside) (source room below inside b)
-  unfolding source declaration
+  unfolding source declaration words.name words.sound
   source_whole room inside b =
       let i = statement_whole room inside b.state in
       record {

@@ -24,6 +24,9 @@ use Rattle.js_parser.specs.Sources.{level, no_level, next_level, statement}
 use Rattle.js_nodes.specs.Classes.{opens}
 use Rattle.js_cursor.specs.Reads.{Reads, Unfits}
 use Rattle.js_cursor.proofs.Refused.{bad_reads}
+use Rattle.js_cursor.specs.Words as words
+use Rattle.js_parser.specs.Primary as primaries
+use Rattle.js_parser.specs.Sources as sources
 
 -- Where a level is left, its rules stand on those of the next.
 pub level_some : (room : ℕ) → 0 < room → level room ≡ next_level room (level (room - 1))
@@ -48,6 +51,7 @@ none_reads {A} field room w ts e z q h = subst (λ (l : Level). Reads (field l) 
 
 -- A token of no class that shows this flaw is refused so.
 pub sound_bad : (flaw : Next → Option Fault) (class : Next → Bool) (ts : List Next) (w : Option Fault) → flaw (first ts None) ≡ w → class (first ts None) ≡ false → read None (sound flaw class) ts ≡ Bad w ts
+unfolding sound
 sound_bad flaw class ts None q h = rw q rw h refl
 sound_bad flaw class ts (Some f) q h = rw q refl
 
@@ -56,7 +60,7 @@ lone_flaw t h = rw h refl
 
 -- What is no name is refused as an operand that has no level.
 pub lone_refused : (codes : List FnCode) (ts : List Next) (e : ParseError) → of is_name (first ts None) ≡ false → Unfits (operand_too_deep (first ts None)) e → Reads (read None (lone_name codes) ts) (Err e) ts
-unfolding lone_name
+unfolding lone_name sound
 lone_refused codes ts e h u = bad_reads (operand_too_deep (first ts None)) ts e (read None (lone_name codes) ts) (rw (sound_bad unless_name (of is_name) ts (operand_too_deep (first ts None)) (lone_flaw (first ts None) h) h) refl) u
 
 -- ---- operators between two operands
@@ -76,14 +80,14 @@ binary_begun room below context n codes ts x r h e = binary_some room below cont
 -- ---- at the end
 
 pub no_operation : (room : ℕ) (below : Level) (context : Context) (n : ℕ) (x : Operand) (ts : List Next) → 0 < n → first ts None ≡ None → read None (operation room below context n x) ts ≡ Bad None ts
-unfolding operation binds
+unfolding operation binds sound words.takes
 no_operation room below context zero x ts h e = absurd (omega arith)
 no_operation room below context (suc n) x ts h e = rw e rw (eqb-zero-suc n) refl
 
 pub no_primary : (room : ℕ) (below : Level) (codes : List FnCode) (ts : List Next) → first ts None ≡ None → read None (primary room below codes) ts ≡ Bad None ts
-unfolding primary shows
+unfolding primary shows primaries.primary_by sound
 no_primary room below codes ts e = rw e refl
 
 pub no_statement : (room : ℕ) (below : Level) (inside : Inside) (added : State) (ts : List Next) → first ts None ≡ None → read None (statement room below inside added) ts ≡ Bad None ts
-unfolding statement opens shows says is_prefix
+unfolding statement opens shows says is_prefix sound sources.statement_by sources.told_statement
 no_statement room below inside added ts e = rw e refl

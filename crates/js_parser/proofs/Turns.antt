@@ -37,20 +37,27 @@ use Rattle.js_parser.proofs.DecidedOperands.{parameter_turns, source_turns, list
 use Rattle.js_parser.proofs.DecidedExpressions.{operation_turns, comma_turns}
 use Rattle.js_parser.proofs.DecidedStatements.{block_turns, case_turns, decl_turns, switch_turns}
 use Rattle.js_parser.proofs.DecidedSources.{level_known, program_turns}
+use Rattle.js_cursor.specs.Rules as rules
+use Rattle.js_cursor.specs.Words as words
+use Rattle.js_parser.specs.Primary as primaries
 
 pub parameter_turn : (x : List (List ℕ)) (ts : List Next) (u : List (List ℕ)) (r : List Next) → shows p.Comma (first ts None) ≡ true → read None (more_parameters x) ts ≡ Got u r → (read None (again (λ _ t. shows p.Comma t) more_parameters x) ts ≡ read None (again (λ _ t. shows p.Comma t) more_parameters u) r) × (length r < length ts)
+unfolding more_parameters rules.parameter words.sign words.sound
 parameter_turn x ts u r h e = turn None (λ _ t. shows p.Comma t) more_parameters x ts u r (parameter_turns x) h e
 
 pub source_turn : (room : ℕ) (x : Body) (ts : List Next) (u : Body) (r : List Next) → in_block (first ts None) ≡ true → read None ((level room).source called x) ts ≡ Got u r → (read None (again (λ _ t. in_block t) (λ b. (level room).source called b) x) ts ≡ read None (again (λ _ t. in_block t) (λ b. (level room).source called b) u) r) × (length r < length ts)
 source_turn room x ts u r h e = turn None (λ _ t. in_block t) (λ b. (level room).source called b) x ts u r (source_turns (level room) (level_known room) x) h e
 
 pub list_turn : (room : ℕ) (x : Row) (ts : List Next) (u : Row) (r : List Next) → shows p.Comma (first ts None) ≡ true → read None (list_more (level room) x) ts ≡ Got u r → (read None (again (λ _ t. shows p.Comma t) (list_more (level room)) x) ts ≡ read None (again (λ _ t. shows p.Comma t) (list_more (level room)) u) r) × (length r < length ts)
+unfolding list_more primaries.item words.sign
 list_turn room x ts u r h e = turn None (λ _ t. shows p.Comma t) (list_more (level room)) x ts u r (list_turns (level room) (level_known room) x) h e
 
 pub object_turn : (here room : ℕ) (x : Entries) (ts : List Next) (u : Entries) (r : List Next) → shows p.Comma (first ts None) ≡ true → read None (object_more here (level room) x) ts ≡ Got u r → (read None (again (λ _ t. shows p.Comma t) (object_more here (level room)) x) ts ≡ read None (again (λ _ t. shows p.Comma t) (object_more here (level room)) u) r) × (length r < length ts)
+unfolding object_more words.sign
 object_turn here room x ts u r h e = turn None (λ _ t. shows p.Comma t) (object_more here (level room)) x ts u r (object_turns (level room) (level_known room) here x) h e
 
 pub argument_turn : (room : ℕ) (x : Row) (ts : List Next) (u : Row) (r : List Next) → shows p.Comma (first ts None) ≡ true → read None (argument_more (level room) x) ts ≡ Got u r → (read None (again (λ _ t. shows p.Comma t) (argument_more (level room)) x) ts ≡ read None (again (λ _ t. shows p.Comma t) (argument_more (level room)) u) r) × (length r < length ts)
+unfolding argument_more primaries.item words.sign
 argument_turn room x ts u r h e = turn None (λ _ t. shows p.Comma t) (argument_more (level room)) x ts u r (argument_turns (level room) (level_known room) x) h e
 
 pub link_turn : (class : Kind → Bool) (here room : ℕ) (x : Operand) (ts : List Next) (u : Operand) (r : List Next) → of class (first ts None) ≡ true → read None (link class here (level room) x) ts ≡ Got u r → (read None (again (λ _ t. of class t) (link class here (level room)) x) ts ≡ read None (again (λ _ t. of class t) (link class here (level room)) u) r) × (length r < length ts)
@@ -64,9 +71,11 @@ pub comma_turn : (here room : ℕ) (context : Context) (x : Operand) (ts : List 
 comma_turn here room context x ts u r h e = turn None (λ _ t. shows p.Comma t) (comma here (level room) context) x ts u r (comma_turns (level room) (level_known room) here context x) h e
 
 pub block_turn : (inside : Inside) (room : ℕ) (x : Series) (ts : List Next) (u : Series) (r : List Next) → in_block (first ts None) ≡ true → read None (series_more inside (level room) x) ts ≡ Got u r → (read None (again (λ _ t. in_block t) (series_more inside (level room)) x) ts ≡ read None (again (λ _ t. in_block t) (series_more inside (level room)) u) r) × (length r < length ts)
+unfolding series_more
 block_turn inside room x ts u r h e = turn None (λ _ t. in_block t) (series_more inside (level room)) x ts u r (block_turns (level room) (level_known room) inside x) h e
 
 pub case_turn : (inside : Inside) (room : ℕ) (x : Series) (ts : List Next) (u : Series) (r : List Next) → in_case (first ts None) ≡ true → read None (series_more inside (level room) x) ts ≡ Got u r → (read None (again (λ _ t. in_case t) (series_more inside (level room)) x) ts ≡ read None (again (λ _ t. in_case t) (series_more inside (level room)) u) r) × (length r < length ts)
+unfolding series_more
 case_turn inside room x ts u r h e = turn None (λ _ t. in_case t) (series_more inside (level room)) x ts u r (case_turns (level room) (level_known room) inside x) h e
 
 pub decl_turn : (here room : ℕ) (context : Context) (x : Decls) (ts : List Next) (u : Decls) (r : List Next) → shows p.Comma (first ts None) ≡ true → read None (decl_more here (level room) context x) ts ≡ Got u r → (read None (again (λ _ t. shows p.Comma t) (decl_more here (level room) context) x) ts ≡ read None (again (λ _ t. shows p.Comma t) (decl_more here (level room) context) u) r) × (length r < length ts)

@@ -24,6 +24,10 @@ use Rattle.js_parser.proofs.ValidCodes.{Ready, adds_none, adds_both}
 use Rattle.js_parser.proofs.ValidFits.{Fine, Has, use_of, no_flaw, level_left, left_height, right_height, both_height, FitsExpr, wider, node_fits, FitsRow, no_row, values_more, row_fits}
 use Rattle.js_parser.proofs.ValidLevels.{Valid}
 use Rattle.js_parser.proofs.ValidPrimary.{item_fits, primary_fits}
+use Rattle.js_cursor.specs.Rules as rules
+use Rattle.js_cursor.specs.Words as words
+use Rattle.js_parser.specs.Chains as chains
+use Rattle.js_parser.specs.Primary as primaries
 
 -- A node on top of an operand fits where a level is left.
 pub over_fits : (room : ℕ) (cs : List FnCode) (value : Expr) (x : Operand) → FitsExpr (suc room) cs x → x.depth.height < suc room → ExprNode (length x.codes) (ValidExpr x.depth.height (length x.codes)) (out-Expr value) → FitsExpr (suc room) cs (over value x)
@@ -47,7 +51,7 @@ module _ (room : ℕ) (below : Level) (known : Valid room below) where
   -- ---- arguments
 
   some_arguments_fit : (cs : List FnCode) → Ready cs → Has (some_arguments below cs) (FitsRow room cs)
-  unfolding some_arguments
+  unfolding some_arguments argument_more primaries.item words.sign
   some_arguments_fit cs h = record {
     at = λ t. use_of (known.assign (context c.Paren) cs h) t _ (λ y s k.
         kept Fine (λ _ u. shows p.Comma u) (argument_more below) (row_more (row [] cs nothing) y) s _ (FitsRow room cs) (row_fits (no_row room cs h) k)
@@ -56,35 +60,38 @@ module _ (room : ℕ) (below : Level) (known : Valid room below) where
   }
 
   arguments_fit : (cs : List FnCode) → Ready cs → Has (arguments below cs) (FitsRow room cs)
-  unfolding arguments
+  unfolding arguments words.sign
   arguments_fit cs h = record { at = λ t. (λ _ _ _. no_row room cs h, λ _. (some_arguments_fit cs h).at t) }
 
   -- ---- properties and calls
 
   index_fits : (cs : List FnCode) (x : Operand) → FitsExpr (suc room) cs x → x.depth.height < suc room → Has (index below x) (FitsExpr (suc room) cs)
+  unfolding index rules.indexed words.sign
   index_fits cs x f l = record {
     at = λ t. use_of (known.expr (context c.Bracket) x.codes f.adds.ready) t _ (λ y s k. λ _ _ _.
         above_fits room cs (e.Index x.value y.value) x y f l k (λ V a b. rw (e.outs-Index x.value y.value) (a, b)));
   }
 
   call_fits : (cs : List FnCode) (x : Operand) → FitsExpr (suc room) cs x → x.depth.height < suc room → Has (call below x) (FitsExpr (suc room) cs)
+  unfolding call
   call_fits cs x f l = record {
     at = λ t. use_of (arguments_fit x.codes f.adds.ready) t _ (λ r s k.
         with_row room cs (e.Call x.value r.values) x.at x r f l k (λ V a b. rw (e.outs-Call x.value r.values) (a, b)));
   }
 
   link_kind_fits : (cs : List FnCode) (x : Operand) (kind : Kind) → FitsExpr (suc room) cs x → x.depth.height < suc room → Has (link_kind below x kind) (FitsExpr (suc room) cs)
-  unfolding member_name
+  unfolding member_name call index link_kind rules.indexed rules.member words.sign
   link_kind_fits cs x (k.Punct p.Dot) f l = record { at = λ t. λ _ _ _. over_fits room cs (e.Member x.value (text t)) x f l (rw (e.outs-Member x.value (text t)) f.valid) }
   link_kind_fits cs x (k.Punct p.LeftBracket) f l = index_fits cs x f l
   link_kind_fits cs x _ f l = call_fits cs x f l
 
   link_by_fits : (cs : List FnCode) (x : Operand) (t : Next) → FitsExpr (suc room) cs x → x.depth.height < suc room → Has (link_by below x t) (FitsExpr (suc room) cs)
+  unfolding call index link_by link_kind rules.indexed rules.member words.sign
   link_by_fits cs x None f l = record { at = λ s. tt }
   link_by_fits cs x (Some t) f l = link_kind_fits cs x t.kind f l
 
   link_fits : (class : Kind → Bool) (cs : List FnCode) (x : Operand) → FitsExpr (suc room) cs x → Has (link class (suc room) below x) (FitsExpr (suc room) cs)
-  unfolding link
+  unfolding link call index link_by link_kind rules.indexed rules.member words.sign words.sound words.takes
   link_fits class cs x f = record {
     at = λ t. (
       tt,
@@ -102,7 +109,7 @@ module _ (room : ℕ) (below : Level) (known : Valid room below) where
   new_fits cs at x r f k = with_row room cs (e.New x.value r.values) at x r f (omega (arith, f.height)) k (λ V a b. rw (e.outs-New x.value r.values) (a, b))
 
   construction_fits : (cs : List FnCode) → Ready cs → Has (construction (suc room) below cs) (FitsExpr (suc room) cs)
-  unfolding construction
+  unfolding construction chains.new_arguments words.deeper words.sign words.sound
   construction_fits cs h = record {
     at = λ t. (
       tt,
@@ -116,7 +123,7 @@ module _ (room : ℕ) (below : Level) (known : Valid room below) where
   -- ---- both
 
   pub callee_fits : (cs : List FnCode) → Ready cs → Has (callee (suc room) below cs) (FitsExpr (suc room) cs)
-  unfolding callee
+  unfolding callee chains.head
   callee_fits cs h = record {
     at = λ t. (
       use_of (construction_fits cs h) t _ (λ x s f. links_fit is_access cs x f s),
@@ -125,7 +132,7 @@ module _ (room : ℕ) (below : Level) (known : Valid room below) where
   }
 
   pub left_fits : (cs : List FnCode) → Ready cs → Has (left (suc room) below cs) (FitsExpr (suc room) cs)
-  unfolding left
+  unfolding left chains.head
   left_fits cs h = record {
     at = λ t. (
       use_of (construction_fits cs h) t _ (λ x s f. links_fit is_link cs x f s),

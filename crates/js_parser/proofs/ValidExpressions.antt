@@ -27,6 +27,8 @@ use Rattle.js_parser.proofs.ValidFits.{Fine, Has, use_of, no_flaw, level_left, t
 use Rattle.js_parser.proofs.ValidLevels.{Valid}
 use Rattle.js_parser.proofs.ValidPrimary.{leaf_fits}
 use Rattle.js_parser.proofs.ValidChains.{over_fits, above_fits, left_fits}
+use Rattle.js_cursor.specs.Words as words
+use Rattle.js_parser.specs.Expressions as expressions
 
 -- ---- operators
 
@@ -89,6 +91,7 @@ module _ (room : ℕ) (below : Level) (known : Valid room below) where
   stepped_fits cs x (Some t) f h = over_fits room cs (e.Step (step_op t.kind) false x.value) x f h.1 (rw (e.outs-Step (step_op t.kind) false x.value) (h.0, f.valid))
 
   stepped_or_not_fits : (cs : List FnCode) (x : Operand) → FitsExpr (suc room) cs x → Has (stepped_or_not (suc room) x) (FitsExpr (suc room) cs)
+  unfolding stepped_or_not words.sound words.takes
   stepped_or_not_fits cs x f = record {
     at = λ t. (
       (tt, λ _ e s. stepped_fits cs x t f (target_left (suc room) x (no_flaw (is_postfix t) (target_flaw (suc room) x) e))),
@@ -97,7 +100,7 @@ module _ (room : ℕ) (below : Level) (known : Valid room below) where
   }
 
   postfix_fits : (cs : List FnCode) → Ready cs → Has (postfix (suc room) below cs) (FitsExpr (suc room) cs)
-  unfolding postfix
+  unfolding postfix stepped_or_not words.sound words.takes
   postfix_fits cs h = record { at = λ t. use_of (left_fits room below known cs h) t _ (λ x s f. (stepped_or_not_fits cs x f).at s) }
 
   prefix_value_fits : (cs : List FnCode) (x : Operand) (t : Token) (b : Bool) → FitsExpr room cs x → (b ≡ true → is_target x.value ≡ true) → (is_delete t.kind ≡ true → is_name x.value ≡ false) → FitsExpr (suc room) cs (operand (cond b (e.Step (step_op t.kind) true x.value) (e.Unary (unary_op t.kind) x.value)) x.codes t.at (raised t.at x.depth))
@@ -111,11 +114,12 @@ module _ (room : ℕ) (below : Level) (known : Valid room below) where
       prefix_value_fits cs x t (is_step t.kind) f h.0 (delete_flaw (is_delete t.kind) (is_name x.value) _ h.1)
 
   prefix_end_fits : (context : Context) (cs : List FnCode) (x : Operand) (t : Next) (o : Option Fault) → FitsExpr room cs x → flaw_of_prefix t x ≡ o → Has (prefix_end context t x o) (FitsExpr (suc room) cs)
+  unfolding prefix_end
   prefix_end_fits context cs x t None f e = record { at = λ s. prefixed_fits cs x t f e }
   prefix_end_fits context cs x t (Some o) f e = record { at = λ s. tt }
 
   unary_fits : (context : Context) (cs : List FnCode) → Ready cs → Has (unary (suc room) below context cs) (FitsExpr (suc room) cs)
-  unfolding unary prefix
+  unfolding unary prefix prefix_end words.deeper words.sound
   unary_fits context cs h = record {
     at = λ t. (
       (tt, λ _ _ s. use_of (known.binary context 0 cs h) s _ (λ x u f. (prefix_end_fits context cs x t (flaw_of_prefix t x) f refl).at u)),
@@ -130,7 +134,7 @@ module _ (room : ℕ) (below : Level) (known : Valid room below) where
   joined_fits cs x y (Some t) f l k = above_fits room cs (joined t.kind x.value y.value) x y f l k (λ V a b. joined_node t.kind x.value y.value (length y.codes) V a b)
 
   operation_fits : (context : Context) (n : ℕ) (cs : List FnCode) (x : Operand) → FitsExpr (suc room) cs x → Has (operation (suc room) below context n x) (FitsExpr (suc room) cs)
-  unfolding operation
+  unfolding operation words.sound words.takes
   operation_fits context n cs x f = record {
     at = λ t. (
       tt,
@@ -162,6 +166,7 @@ module _ (room : ℕ) (below : Level) (known : Valid room below) where
       ))
 
   chosen_fits : (context : Context) (cs : List FnCode) (x : Operand) → FitsExpr (suc room) cs x → Has (chosen (suc room) below context x) (FitsExpr (suc room) cs)
+  unfolding chosen expressions.branches expressions.other_branch words.sign words.sound words.takes
   chosen_fits context cs x f = record {
     at = λ t. (
       (
@@ -174,7 +179,7 @@ module _ (room : ℕ) (below : Level) (known : Valid room below) where
   }
 
   conditional_fits : (context : Context) (cs : List FnCode) → Ready cs → Has (conditional (suc room) below context cs) (FitsExpr (suc room) cs)
-  unfolding conditional
+  unfolding conditional chosen expressions.branches expressions.other_branch words.sign words.sound words.takes
   conditional_fits context cs h = record { at = λ t. use_of (binary_fits context 10 cs h) t _ (λ x s f. (chosen_fits context cs x f).at s) }
 
   -- ---- assignments and commas
@@ -184,6 +189,7 @@ module _ (room : ℕ) (below : Level) (known : Valid room below) where
   assigned_fits cs x y (Some t) f l k = above_fits room cs (assigned t.kind x.value y.value) x y f l.1 k (λ V a b. assigned_node t.kind x.value y.value (length y.codes) V l.0 a b)
 
   assigned_or_not_fits : (context : Context) (cs : List FnCode) (x : Operand) → FitsExpr (suc room) cs x → Has (assigned_or_not (suc room) below context x) (FitsExpr (suc room) cs)
+  unfolding assigned_or_not words.sound words.takes
   assigned_or_not_fits context cs x f = record {
     at = λ t. (
       (
@@ -196,11 +202,11 @@ module _ (room : ℕ) (below : Level) (known : Valid room below) where
   }
 
   pub assign_fits : (context : Context) (cs : List FnCode) → Ready cs → Has (assign (suc room) below context cs) (FitsExpr (suc room) cs)
-  unfolding assign
+  unfolding assign assigned_or_not words.sound words.takes
   assign_fits context cs h = record { at = λ t. use_of (conditional_fits context cs h) t _ (λ x s f. (assigned_or_not_fits context cs x f).at s) }
 
   comma_fits : (context : Context) (cs : List FnCode) (x : Operand) → FitsExpr (suc room) cs x → Has (comma (suc room) below context x) (FitsExpr (suc room) cs)
-  unfolding comma
+  unfolding comma words.sound words.takes
   comma_fits context cs x f = record {
     at = λ t. (
       tt,
@@ -219,7 +225,7 @@ module _ (room : ℕ) (below : Level) (known : Valid room below) where
   -- ---- the first part of a `for` head
 
   lone_name_fits : (cs : List FnCode) → Ready cs → Has (lone_name cs) (FitsExpr (suc room) cs)
-  unfolding lone_name
+  unfolding lone_name words.sound
   lone_name_fits cs h = record { at = λ t. (tt, λ _ _ s. (tt, λ _. leaf_fits room below known cs t (e.Name (text t)) h (rw (e.outs-Name (text t)) tt))) }
 
   pub first_fits : (cs : List FnCode) → Ready cs → Has (first (suc room) below cs) (FitsExpr (suc room) cs)

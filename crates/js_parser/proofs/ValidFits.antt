@@ -65,18 +65,22 @@ target_left room x e = go (is_target x.value) _ e
 
 -- A node takes one level more than its parts.
 pub height_raised : (at : ℕ) (d : Depth) → (raised at d).height ≡ d.height + 1
+unfolding raised
 height_raised at d = grind (arith, nat_tests)
 
 -- Two pieces take as many levels as the first, or more.
 pub left_height : (d e : Depth) → d.height ≤ (both d e).height
+unfolding both
 left_height d e = grind (arith, nat_tests)
 
 -- They take as many as the second, or more.
 pub right_height : (d e : Depth) → e.height ≤ (both d e).height
+unfolding both
 right_height d e = grind (arith, nat_tests)
 
 -- They take no more than each may take.
 pub both_height : (d e : Depth) (n : ℕ) → d.height ≤ n → e.height ≤ n → (both d e).height ≤ n
+unfolding both
 both_height d e n h k = grind (arith, nat_tests)
 
 -- ---- expressions

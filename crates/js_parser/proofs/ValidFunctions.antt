@@ -20,6 +20,8 @@ use Rattle.js_cursor.specs.Rules.{more_parameters}
 use Rattle.js_parser.proofs.ValidCodes.{Ready, Adds, held, filled}
 use Rattle.js_parser.proofs.ValidFits.{Fine, Has, use_of, let_through}
 use Rattle.js_parser.proofs.ValidLevels.{FitsBody, Valid, no_body, stmts_more}
+use Rattle.js_cursor.specs.Rules as rules
+use Rattle.js_cursor.specs.Words as words
 
 -- ---- names
 
@@ -62,7 +64,7 @@ one_more names t d h = distinct_push names (text t) d (new_name names t h)
 
 -- Parameters differ, behind their `(`.
 some_parameters_differ : Has some_parameters AreDistinct
-unfolding some_parameters
+unfolding some_parameters more_parameters rules.parameter words.sign words.sound
 some_parameters_differ = record {
   at = λ t. (
     tt,
@@ -74,7 +76,7 @@ some_parameters_differ = record {
 
 -- Parameters differ.
 parameters_differ : Has parameters AreDistinct
-unfolding parameters
+unfolding parameters words.sign
 parameters_differ = record { at = λ t. λ _ _ s. (λ _ _ _. tt, λ _. some_parameters_differ.at s) }
 
 -- ---- codes
@@ -87,7 +89,7 @@ pub record FitsCoded (room : ℕ) (name : Option (List ℕ)) (cs : List FnCode) 
 
 module _ (room : ℕ) (below : Level) (known : Valid room below) where
   body_fits : (cs : List FnCode) → Ready cs → Has (function_body below cs) (FitsBody room in_function cs)
-  unfolding function_body
+  unfolding function_body words.sign
   body_fits cs h = record {
     at = λ t. λ _ _ s. kept Fine (λ _ u. in_block u) (λ b. below.source called b) (body [] (state cs []) [] nothing) s _ (FitsBody room in_function cs)
         (no_body room in_function cs h)

@@ -24,6 +24,8 @@ use Rattle.js_parser.proofs.ValidCodes.{Ready, Adds, adds_length, adds_none, add
 use Rattle.js_parser.proofs.ValidFits.{Has, use_of, no_flaw, level_left, height_raised, left_height, right_height, both_height, FitsExpr, wider}
 use Rattle.js_parser.proofs.ValidLevels.{around, FitsState, FitsSaid, Valid}
 use Rattle.js_parser.proofs.ValidSeries.{said_fits, said_wider, once_differs}
+use Rattle.js_cursor.specs.Words as words
+use Rattle.js_parser.specs.Heads as heads
 
 -- an expression that may be left out
 pub record FitsPart (room : ℕ) (cs : List FnCode) (y : Part) : Type 0 where
@@ -45,7 +47,7 @@ first_wider g h n m inside o l k v = there_more (FirstStmt g n inside) (FirstStm
 
 module _ (room : ℕ) (below : Level) (known : Valid room below) where
   head_part_fits : (closer : Closer) (end : Punct) (cs : List FnCode) → Ready cs → Has (head_part below closer end cs) (FitsPart room cs)
-  unfolding head_part
+  unfolding head_part words.sign
   head_part_fits closer end cs h = record {
     at = λ t. (
       λ _ _ _. record { adds = adds_none cs h; height = omega arith; valid = tt },
@@ -54,7 +56,7 @@ module _ (room : ℕ) (below : Level) (known : Valid room below) where
   }
 
   rest_fits : (inside : Inside) (cs : List FnCode) (t : Next) (head : Option Stmt) (added : State) (depth : Depth) → Adds cs added.codes → AreDistinct added.vars → depth.height ≤ room → IfThere (FirstStmt depth.height (length added.codes) inside) head → Has (for_rest below inside t head added depth) (FitsSaid (suc room) (around inside) cs)
-  unfolding for_rest
+  unfolding for_rest heads.for_body
   rest_fits inside cs t head added depth a d l v = record {
     at = λ u.
         use_of (head_part_fits c.Semicolon p.Semicolon added.codes a.ready) u _ (λ y r k.
@@ -77,7 +79,7 @@ module _ (room : ℕ) (below : Level) (known : Valid room below) where
   }
 
   each_fits : (inside : Inside) (cs : List FnCode) (t : Next) (n : List ℕ) (added : State) → Adds cs added.codes → AreDistinct added.vars → Has (for_each below inside t n added) (FitsSaid (suc room) (around inside) cs)
-  unfolding for_each
+  unfolding for_each heads.each_body words.sign
   each_fits inside cs t n added a d = record {
     at = λ u. use_of (known.expr (context c.Paren) added.codes a.ready) u _ (λ x r k. λ _ _ o.
         use_of (known.statement (turning inside) (state x.codes added.vars) (record { ready = k.adds.ready; vars = d })) o _ (λ y i m.
@@ -90,6 +92,7 @@ module _ (room : ℕ) (below : Level) (known : Valid room below) where
   }
 
   named_fits : (inside : Inside) (added : State) (t : Next) (at : ℕ) (n : List ℕ) → FitsState added → Has (for_named below inside t at added n) (FitsSaid (suc room) (around inside) added.codes)
+  unfolding for_named heads.for_declared heads.for_listed words.sign words.word
   named_fits inside added t at n f = record {
     at = λ r. (
       λ _ _ o. (each_fits inside added.codes t n (declared added n) (adds_none added.codes f.ready) (once_differs added.vars n f.vars)).at o,
@@ -99,7 +102,7 @@ module _ (room : ℕ) (below : Level) (known : Valid room below) where
   }
 
   for_variables_fit : (inside : Inside) (added : State) (t : Next) (at : ℕ) → FitsState added → Has (for_variables below inside t at added) (FitsSaid (suc room) (around inside) added.codes)
-  unfolding for_variables
+  unfolding for_variables for_named heads.for_declared heads.for_listed words.name words.sign words.sound words.word
   for_variables_fit inside added t at f = record { at = λ r. (tt, λ _ _ o. (named_fits inside added t at (text r) f).at o) }
 
   first_stmt : (inside : Inside) (added : State) (x : Operand) → FitsState added → FitsExpr room added.codes x → FirstStmt (raised x.at x.depth).height (length x.codes) inside (s.Expr x.value)
@@ -108,7 +111,7 @@ module _ (room : ℕ) (below : Level) (known : Valid room below) where
       (rw (s.outs-Expr x.value) refl, fit.valid)
 
   for_expression_fits : (inside : Inside) (added : State) (t : Next) (x : Operand) → FitsState added → FitsExpr room added.codes x → Has (for_expression (suc room) below inside t added.vars x) (FitsSaid (suc room) (around inside) added.codes)
-  unfolding for_expression
+  unfolding for_expression heads.for_first words.sound words.takes
   for_expression_fits inside added t x f k = record {
     at = λ u. (
       λ _ _ r. (each_fits inside added.codes t (name_of x.value) (state x.codes added.vars) k.adds f.vars).at r,
@@ -122,7 +125,7 @@ module _ (room : ℕ) (below : Level) (known : Valid room below) where
   }
 
   for_head_fits : (inside : Inside) (added : State) (t : Next) → FitsState added → Has (for_head (suc room) below inside t added) (FitsSaid (suc room) (around inside) added.codes)
-  unfolding for_head
+  unfolding for_head words.sign
   for_head_fits inside added t f = record {
     at = λ u. (
       λ _ _ r. (rest_fits inside added.codes t None added nothing (adds_none added.codes f.ready) f.vars (omega arith) tt).at r,
@@ -134,5 +137,5 @@ module _ (room : ℕ) (below : Level) (known : Valid room below) where
   }
 
   pub for_fits : (inside : Inside) (added : State) (t : Next) → FitsState added → Has (for_statement (suc room) below inside added t) (FitsSaid (suc room) (around inside) added.codes)
-  unfolding for_statement
+  unfolding for_statement words.sign
   for_fits inside added t f = record { at = λ u. λ _ _ r. (for_head_fits inside added t f).at r }

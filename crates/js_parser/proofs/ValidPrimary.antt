@@ -34,6 +34,7 @@ use Rattle.js_parser.proofs.ValidCodes.{Ready, Adds, adds_length, adds_none, add
 use Rattle.js_parser.proofs.ValidFits.{Fine, Has, use_of, let_through, height_raised, left_height, right_height, both_height, FitsExpr, wider, node_fits, FitsRow, no_row, row_fits}
 use Rattle.js_parser.proofs.ValidLevels.{Valid}
 use Rattle.js_parser.proofs.ValidFunctions.{distinct_push, code_fits}
+use Rattle.js_cursor.specs.Words as words
 
 -- ---- keys
 
@@ -85,10 +86,11 @@ module _ (room : ℕ) (below : Level) (known : Valid room below) where
   -- ---- lists and objects
 
   pub item_fits : (x : Context) (cs : List FnCode) (r : Row) → FitsRow room cs r → (t : Next) → Gives Fine (item below x r) t (λ v _. FitsRow room cs v)
+  unfolding item
   item_fits x cs r f t = use_of (known.assign x r.codes f.adds.ready) t _ (λ y s k. row_fits f k)
 
   list_items_fit : (cs : List FnCode) → Ready cs → Has (list_items below cs) (FitsRow room cs)
-  unfolding list_items
+  unfolding list_items item list_more words.sign
   list_items_fit cs h = record {
     at = λ t. use_of (known.assign (context c.Bracket) cs h) t _ (λ y s k.
         kept Fine (λ _ u. shows p.Comma u) (list_more below) (row_more (row [] cs nothing) y) s _ (FitsRow room cs) (row_fits (no_row room cs h) k)
@@ -97,11 +99,11 @@ module _ (room : ℕ) (below : Level) (known : Valid room below) where
   }
 
   list_fits : (cs : List FnCode) → Ready cs → Has (list below cs) (FitsRow room cs)
-  unfolding list
+  unfolding list words.sign
   list_fits cs h = record { at = λ t. (λ _ _ _. no_row room cs h, λ _. (list_items_fit cs h).at t) }
 
   entry_fits : (cs : List FnCode) (o : Entries) → FitsEntries room cs o → Has (entry (suc room) below o) (FitsEntries room cs)
-  unfolding entry
+  unfolding entry words.sound
   entry_fits cs o f = record {
     at = λ t. (
       tt,
@@ -115,7 +117,7 @@ module _ (room : ℕ) (below : Level) (known : Valid room below) where
   }
 
   object_entries_fit : (cs : List FnCode) → Ready cs → Has (object_entries (suc room) below cs) (FitsEntries room cs)
-  unfolding object_entries
+  unfolding object_entries object_more words.sign
   object_entries_fit cs h = record {
     at = λ t. use_of (entry_fits cs (entries [] cs nothing) (no_entries room cs h)) t _ (λ o s k.
         kept Fine (λ _ u. shows p.Comma u) (object_more (suc room) below) o s _ (FitsEntries room cs) k
@@ -124,7 +126,7 @@ module _ (room : ℕ) (below : Level) (known : Valid room below) where
   }
 
   object_fits : (cs : List FnCode) → Ready cs → Has (object (suc room) below cs) (FitsEntries room cs)
-  unfolding object
+  unfolding object words.sign
   object_fits cs h = record { at = λ t. (λ _ _ _. no_entries room cs h, λ _. (object_entries_fit cs h).at t) }
 
   -- ---- the others
@@ -134,11 +136,11 @@ module _ (room : ℕ) (below : Level) (known : Valid room below) where
       node_fits (suc room) cs all.codes (e.Fun (length cs)) (place t) all.depth k.adds (omega (arith, k.height)) (rw (e.outs-Fun (length cs)) k.fits))
 
   function_fits : (cs : List FnCode) (t : Next) → Ready cs → Has (function below cs t) (FitsExpr (suc room) cs)
-  unfolding function
+  unfolding function words.name words.sound
   function_fits cs t h = record { at = λ s. (λ _. (tt, λ _ _ u. function_named cs t _ u h), λ _. function_named cs t None s h) }
 
   parens_fit : (cs : List FnCode) (t : Next) → Ready cs → Has (parens below cs t) (FitsExpr (suc room) cs)
-  unfolding parens
+  unfolding parens words.sign
   parens_fit cs t h = record {
     at = λ s. use_of (known.expr (context c.Paren) cs h) s _ (λ x u k. λ _ _ _.
         record {
@@ -174,9 +176,10 @@ module _ (room : ℕ) (below : Level) (known : Valid room below) where
   primary_kind_fits cs t _ h q = record { at = λ s. tt }
 
   primary_by_fits : (cs : List FnCode) (t : Next) → Ready cs → Fine t → Has (primary_by (suc room) below cs t) (FitsExpr (suc room) cs)
+  unfolding primary_by
   primary_by_fits cs None h q = record { at = λ s. tt }
   primary_by_fits cs (Some t) h q = primary_kind_fits cs (Some t) t.kind h q
 
   pub primary_fits : (cs : List FnCode) → Ready cs → Has (primary (suc room) below cs) (FitsExpr (suc room) cs)
-  unfolding primary
+  unfolding primary primary_by words.sound
   primary_fits cs h = record { at = λ t. (tt, λ q _ s. (primary_by_fits cs t h q).at s) }

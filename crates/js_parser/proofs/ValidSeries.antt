@@ -24,6 +24,7 @@ use Rattle.js_parser.proofs.ValidCodes.{Adds, adds_length, adds_none, adds_both}
 use Rattle.js_parser.proofs.ValidFits.{height_raised, left_height, right_height, both_height, FitsExpr}
 use Rattle.js_parser.proofs.ValidLevels.{FitsState, FitsSaid, stmts_more}
 use Rattle.js_parser.proofs.ValidFunctions.{distinct_push}
+use Rattle.js_cursor.specs.Words as words
 
 -- ---- statements
 
@@ -97,6 +98,7 @@ no_decls room added f = record { adds = adds_none added.codes f.ready; vars = f.
 
 -- Declarations fit with one more.
 pub decls_fit : {room : ℕ} {cs : List FnCode} {d : Decls} → FitsDecls room cs d → (n : List ℕ) (value : Option Expr) (codes : List FnCode) (depth : Depth) → Adds d.state.codes codes → depth.height ≤ room → IfThere (ValidExpr depth.height (length codes)) value → FitsDecls room cs (decls_more d n value (state codes (once d.state.vars n)) depth)
+unfolding words.name words.sound
 decls_fit {room} {cs} {d} f n value codes depth a l v =
     let g = d.depth.height in
     let h = (both d.depth depth).height in

@@ -37,6 +37,8 @@ use Rattle.js_parser.proofs.ValidExpressions.{binary_fits, assign_fits, expr_fit
 use Rattle.js_parser.proofs.ValidSeries.{said_fits, said_wider}
 use Rattle.js_parser.proofs.ValidStatements.{block_fits, variables_fit, var_statement_fits, if_fits, do_fits, while_fits, jump_fits, return_fits, throw_fits, expression_fits, switch_fits, try_statement_fits}
 use Rattle.js_parser.proofs.ValidHeads.{for_fits}
+use Rattle.js_cursor.specs.Words as words
+use Rattle.js_parser.specs.Sources as sources
 
 -- what a body is with one function more that it declares
 declared_fits : (room : ℕ) (q : Surroundings) (cs : List FnCode) (b : Body) (n : List ℕ) (all : Coded) (at : ℕ) → FitsBody (suc room) q cs b → FitsCoded room (Some n) b.state.codes all → FitsBody (suc room) q cs (body b.stmts (state all.codes b.state.vars) (b.funs ++ length b.state.codes ∷ []) (both b.depth (raised at all.depth)))
@@ -83,12 +85,12 @@ module _ (room : ℕ) (below : Level) (known : Valid room below) where
   kind_fits inside added t _ f e = record { at = λ u. tt }
 
   by_fits : (inside : Inside) (added : State) (t : Next) → FitsState added → opens inside t ≡ true → Has (statement_by (suc room) below inside added t) (FitsSaid (suc room) (around inside) added.codes)
-  unfolding opens
+  unfolding opens statement_by
   by_fits inside added None f e = record { at = λ u. tt }
   by_fits inside added (Some t) f e = kind_fits inside added (Some t) t.kind f e
 
   statement_fits : (inside : Inside) (added : State) → FitsState added → Has (statement (suc room) below inside added) (FitsSaid (suc room) (around inside) added.codes)
-  unfolding statement
+  unfolding statement sources.told_statement statement_by words.sound
   statement_fits inside added f = record {
     at = λ t. (
       (tt, λ _ e u. (by_fits inside added t f (let_through (opens inside t) (too_deep (suc room) (of requires_part) t) e).0).at u),
@@ -97,7 +99,7 @@ module _ (room : ℕ) (below : Level) (known : Valid room below) where
   }
 
   declaration_fits : (q : Surroundings) (cs : List FnCode) (b : Body) → FitsBody (suc room) q cs b → Has (declaration below b) (FitsBody (suc room) q cs)
-  unfolding declaration
+  unfolding declaration words.name words.sound
   declaration_fits q cs b f = record {
     at = λ t. λ _ _ u. (
       tt,

@@ -37,6 +37,9 @@ use Rattle.js_parser.proofs.ValidCodes.{adds_length, Adds, adds_none, adds_both}
 use Rattle.js_parser.proofs.ValidFits.{Fine, Has, use_of, left_height, right_height, both_height, FitsExpr, wider}
 use Rattle.js_parser.proofs.ValidLevels.{around, FitsState, FitsSaid, FitsVar, Valid, stmts_more}
 use Rattle.js_parser.proofs.ValidSeries.{said_fits, said_wider, after_said, FitsSeries, after_series, no_series, series_wider, series_fits, FitsDecls, no_decls, decls_fit, Counts, FitsCases, no_cases, cases_fit, cases_wider, cases_behind, cases_default}
+use Rattle.js_cursor.specs.Rules as rules
+use Rattle.js_cursor.specs.Words as words
+use Rattle.js_parser.specs.Statements as statement_rules
 
 -- what was added so far, with the codes behind an expression
 pub after_expr : {room : ℕ} {added : State} {x : Operand} → FitsState added → FitsExpr room added.codes x → FitsState (state x.codes added.vars)
@@ -52,10 +55,11 @@ module _ (room : ℕ) (below : Level) (known : Valid room below) where
   -- ---- blocks
 
   rows_fit : (inside : Inside) (cs : List FnCode) (y : Series) → FitsSeries room (around inside) cs y → Has (series_more inside below y) (FitsSeries room (around inside) cs)
+  unfolding series_more
   rows_fit inside cs y f = record { at = λ t. use_of (known.statement inside y.state (after_series f)) t _ (λ x u k. series_fits f k) }
 
   statements_fit : (inside : Inside) (added : State) → FitsState added → Has (statements inside below added) (FitsSeries room (around inside) added.codes)
-  unfolding statements
+  unfolding statements series_more
   statements_fit inside added f = record {
     at = λ t. kept Fine (λ _ u. in_block u) (series_more inside below) (series [] added nothing) t _ (FitsSeries room (around inside) added.codes)
         (no_series room (around inside) added f)
@@ -64,7 +68,7 @@ module _ (room : ℕ) (below : Level) (known : Valid room below) where
   }
 
   pub block_fits : (inside : Inside) (added : State) (t : Next) → FitsState added → Has (block_statement below inside added t) (FitsSaid (suc room) (around inside) added.codes)
-  unfolding block_statement
+  unfolding block_statement statement_rules.block words.sign
   block_fits inside added t f = record {
     at = λ u. use_of (statements_fit (braces inside) added f) u _ (λ y r k. λ _ _ _.
         said_fits room (around inside) added.codes (s.Block y.stmts) y.state (place t) y.depth k.adds k.vars k.height (rw (s.outs-Block y.stmts) k.valid));
@@ -73,6 +77,7 @@ module _ (room : ℕ) (below : Level) (known : Valid room below) where
   -- ---- `var`
 
   initial_fits : (x : Context) (n : List ℕ) (cs : List FnCode) (d : Decls) → FitsDecls room cs d → Has (initial (suc room) below x n d) (FitsDecls room cs)
+  unfolding initial words.deeper words.name words.sound
   initial_fits x n cs d f = record {
     at = λ t. (
       (tt, λ _ _ u. use_of (known.assign x d.state.codes f.adds.ready) u _ (λ y r k. decls_fit f n (Some y.value) y.codes y.depth k.adds k.height k.valid)),
@@ -81,7 +86,7 @@ module _ (room : ℕ) (below : Level) (known : Valid room below) where
   }
 
   decl_more_fits : (x : Context) (cs : List FnCode) (d : Decls) → FitsDecls room cs d → Has (decl_more (suc room) below x d) (FitsDecls room cs)
-  unfolding decl_more
+  unfolding decl_more initial words.deeper words.name words.sign words.sound
   decl_more_fits x cs d f = record { at = λ t. λ _ _ u. (tt, λ _ _ v. (initial_fits x (text u) cs d f).at v) }
 
   var_fits : (q : Surroundings) (cs : List FnCode) (at : ℕ) (d : Decls) → FitsDecls room cs d → FitsVar (suc room) q cs (said (s.Var d.decls) d.state at d.depth)
@@ -94,16 +99,17 @@ module _ (room : ℕ) (below : Level) (known : Valid room below) where
   decls_then x at q cs d t f = kept Fine (λ _ u. shows p.Comma u) (decl_more (suc room) below x) d t _ (FitsDecls room cs) f (λ y u k. (decl_more_fits x cs y k).at u) (λ y u k. var_fits q cs at y k)
 
   pub variables_fit : (x : Context) (at : ℕ) (n : List ℕ) (q : Surroundings) (added : State) → FitsState added → Has (variables (suc room) below x at n added) (FitsVar (suc room) q added.codes)
-  unfolding variables
+  unfolding variables initial words.deeper words.name words.sound
   variables_fit x at n q added f = record { at = λ t. use_of (initial_fits x n added.codes (decls [] added nothing) (no_decls room added f)) t _ (λ d u k. decls_then x at q added.codes d u k) }
 
   pub var_statement_fits : (inside : Inside) (added : State) (t : Next) → FitsState added → Has (var_statement (suc room) below inside added t) (FitsSaid (suc room) (around inside) added.codes)
-  unfolding var_statement
+  unfolding var_statement rules.semi words.name words.sign words.sound
   var_statement_fits inside added t f = record { at = λ u. (tt, λ _ _ r. use_of (variables_fit (context (c.Statement inside.after)) (place t) (text u) (around inside) added f) r _ (λ y v k. (λ _ _ _. k.fits, λ _. k.fits))) }
 
   -- ---- `if`, `do` and `while`
 
   else_fits : (inside : Inside) (cs : List FnCode) (t : Next) (x : Operand) (y : Said) → FitsExpr room cs x → FitsSaid room (around inside) x.codes y → Has (else_part below inside t x.value x.depth y) (FitsSaid (suc room) (around inside) cs)
+  unfolding else_part statement_rules.other_part words.word
   else_fits inside cs t x y f k =
       let d = both x.depth y.depth in
       record {
@@ -126,14 +132,14 @@ module _ (room : ℕ) (below : Level) (known : Valid room below) where
       }
 
   pub if_fits : (inside : Inside) (added : State) (t : Next) → FitsState added → Has (if_statement below inside added t) (FitsSaid (suc room) (around inside) added.codes)
-  unfolding if_statement
+  unfolding if_statement else_part statement_rules.condition statement_rules.other_part words.sign words.word
   if_fits inside added t f = record {
     at = λ u. λ _ _ r. use_of (known.expr (context c.Paren) added.codes f.ready) r _ (λ x v k. λ _ _ z.
         use_of (known.statement (before_else inside) (state x.codes added.vars) (after_expr f k)) z _ (λ y o m. (else_fits inside added.codes t x y k m).at o));
   }
 
   pub do_fits : (inside : Inside) (added : State) (t : Next) → FitsState added → Has (do_statement below inside added t) (FitsSaid (suc room) (around inside) added.codes)
-  unfolding do_statement
+  unfolding do_statement rules.ended rules.semi statement_rules.condition statement_rules.repeated words.sign words.word
   do_fits inside added t f = record {
     at = λ u. use_of (known.statement (doing inside) added f) u _ (λ y r k. λ _ _ _. λ _ _ v. use_of (known.expr (context c.Paren) y.state.codes k.adds.ready) v _ (λ x z m. λ _ _ o.
         let h = (both y.depth x.depth).height in
@@ -146,7 +152,7 @@ module _ (room : ℕ) (below : Level) (known : Valid room below) where
   }
 
   pub while_fits : (inside : Inside) (added : State) (t : Next) → FitsState added → Has (while_statement below inside added t) (FitsSaid (suc room) (around inside) added.codes)
-  unfolding while_statement
+  unfolding while_statement statement_rules.condition words.sign
   while_fits inside added t f = record {
     at = λ u. λ _ _ r. use_of (known.expr (context c.Paren) added.codes f.ready) r _ (λ x v k. λ _ _ z.
         use_of (known.statement (turning inside) (state x.codes added.vars) (after_expr f k)) z _ (λ y o m.
@@ -161,7 +167,7 @@ module _ (room : ℕ) (below : Level) (known : Valid room below) where
   -- ---- `continue`, `break`, `return` and `throw`
 
   pub jump_fits : (inside : Inside) (stmt : Stmt) (added : State) (t : Next) → FitsState added → StmtNode (ValidExpr 0 (length added.codes)) (ValidStmt 0 (length added.codes)) (around inside) (out-Stmt stmt) → Has (jump stmt added t) (FitsSaid (suc room) (around inside) added.codes)
-  unfolding jump
+  unfolding jump rules.ended rules.semi words.sign
   jump_fits inside stmt added t f node =
       let fit = said_fits room (around inside) added.codes stmt added (place t) nothing (adds_none added.codes f.ready) f.vars (omega arith) node in
       record { at = λ u. (tt, λ _. (λ _ _ _. fit, λ _. fit)) }
@@ -171,7 +177,7 @@ module _ (room : ℕ) (below : Level) (known : Valid room below) where
   one_part inside stmt added at x f k node = said_fits room (around inside) added.codes stmt (state x.codes added.vars) at x.depth k.adds f.vars k.height node
 
   pub return_fits : (inside : Inside) (added : State) (t : Next) → FitsState added → inside.function ≡ true → Has (return_statement below inside added t) (FitsSaid (suc room) (around inside) added.codes)
-  unfolding return_statement
+  unfolding return_statement rules.ended rules.semi words.sign
   return_fits inside added t f e =
       let empty = said_fits room (around inside) added.codes (s.Return None) added (place t) nothing (adds_none added.codes f.ready) f.vars (omega arith) (rw (s.outs-Return None) (e, tt)) in
       record {
@@ -184,7 +190,7 @@ module _ (room : ℕ) (below : Level) (known : Valid room below) where
       }
 
   pub throw_fits : (inside : Inside) (added : State) (t : Next) → FitsState added → Has (throw_statement below inside added t) (FitsSaid (suc room) (around inside) added.codes)
-  unfolding throw_statement
+  unfolding throw_statement rules.ended rules.semi words.sign
   throw_fits inside added t f = record {
     at = λ u. (
       tt,
@@ -195,7 +201,7 @@ module _ (room : ℕ) (below : Level) (known : Valid room below) where
   }
 
   pub expression_fits : (inside : Inside) (added : State) → FitsState added → Has (expression_statement below inside added) (FitsSaid (suc room) (around inside) added.codes)
-  unfolding expression_statement
+  unfolding expression_statement rules.ended rules.semi words.sign
   expression_fits inside added f = record {
     at = λ u. use_of (known.expr (context (c.Statement inside.after)) added.codes f.ready) u _ (λ x r k.
         let fit = one_part inside (s.Expr x.value) added x.at x f k (rw (s.outs-Expr x.value) k.valid) in
@@ -205,7 +211,7 @@ module _ (room : ℕ) (below : Level) (known : Valid room below) where
   -- ---- `switch`
 
   case_body_fits : (inside : Inside) (cs : List FnCode) (y : Cases) (test : Option Expr) → FitsCases room (around inside) cs y → IfThere (ValidExpr y.depth.height (length y.state.codes)) test → Counts (counted test (defaults y.cases)) y.has_default → Has (case_body below inside y test) (FitsCases room (around inside) cs)
-  unfolding case_body
+  unfolding case_body series_more
   case_body_fits inside cs y test f v count = record {
     at = λ t.
         kept Fine (λ _ u. in_case u) (series_more (choosing inside) below) (series [] y.state nothing) t _ (FitsSeries room (around (choosing inside)) y.state.codes)
@@ -215,7 +221,7 @@ module _ (room : ℕ) (below : Level) (known : Valid room below) where
   }
 
   case_fits : (inside : Inside) (cs : List FnCode) (y : Cases) → FitsCases room (around inside) cs y → Has (case_part below inside y) (FitsCases room (around inside) cs)
-  unfolding case_part
+  unfolding case_part statement_rules.case_clause statement_rules.default_clause words.sign words.word
   case_fits inside cs y f = record {
     at = λ t. (
       λ _ _ u. use_of (known.expr (context c.Case) y.state.codes f.adds.ready) u _ (λ x r k. λ _ _ v.
@@ -228,7 +234,7 @@ module _ (room : ℕ) (below : Level) (known : Valid room below) where
   }
 
   pub switch_fits : (inside : Inside) (added : State) (t : Next) → FitsState added → Has (switch_statement below inside added t) (FitsSaid (suc room) (around inside) added.codes)
-  unfolding switch_statement switch_cases
+  unfolding switch_statement switch_cases statement_rules.condition statement_rules.switch_parts words.sign
   switch_fits inside added t f = record {
     at = λ u. λ _ _ r. use_of (known.expr (context c.Paren) added.codes f.ready) r _ (λ x v k. λ _ _ z. λ _ _ o.
         kept Fine (λ _ u. is_case u) (case_part below inside) (cases [] (state x.codes added.vars) false nothing) o _ (FitsCases room (around inside) x.codes)
@@ -248,10 +254,11 @@ module _ (room : ℕ) (below : Level) (known : Valid room below) where
 
   -- a block in its braces, and what stands behind it
   in_braces : {A : Type 0} (inside : Inside) (added : State) (g : Series → R A) (t : Next) (S : A → Next → Type 0) → FitsState added → ((y : Series) (u : Next) → FitsSeries room (around inside) added.codes y → Gives Fine (g y) u S) → Gives Fine (braced inside below added >>= g) t S
+  unfolding braced statement_rules.block words.sign
   in_braces inside added g t S f k = λ _ _ u. use_of (statements_fit (braces inside) added f) u _ (λ y r m. λ _ _ v. k y v m)
 
   finally_fits : (inside : Inside) (cs : List FnCode) (t : Next) (y : Series) → FitsSeries room (around inside) cs y → Has (finally_part below inside t y) (FitsSaid (suc room) (around inside) cs)
-  unfolding finally_part
+  unfolding finally_part braced statement_rules.block words.sign words.word
   finally_fits inside cs t y f = record {
     at = λ u. λ _ _ r. in_braces inside y.state (λ v. done (said (s.Try y.stmts None (Some v.stmts)) v.state (place t) (both y.depth v.depth))) r (λ x _. FitsSaid (suc room) (around inside) cs x) (after_series f) (λ v z k.
         let h = (both y.depth v.depth).height in
@@ -266,6 +273,7 @@ module _ (room : ℕ) (below : Level) (known : Valid room below) where
 
   -- behind a block and a `catch` that are valid with so many levels and codes
   caught_fits : (inside : Inside) (cs : List FnCode) (t : Next) (stmts : List Stmt) (depth : Depth) (a : Handler) (added : State) → Adds cs added.codes → AreDistinct added.vars → depth.height ≤ room → All (ValidStmt depth.height (length added.codes) (around inside)) stmts → All (ValidStmt depth.height (length added.codes) (around inside)) a.body → Has (caught below inside t stmts depth a added) (FitsSaid (suc room) (around inside) cs)
+  unfolding braced caught statement_rules.block words.sign words.word
   caught_fits inside cs t stmts depth a added adds vars l v b = record {
     at = λ u. (
       λ _ _ r. in_braces inside added (λ z. done (said (s.Try stmts (Some a) (Some z.stmts)) z.state (place t) (both depth z.depth))) r (λ x _. FitsSaid (suc room) (around inside) cs x) (record { ready = adds.ready; vars = vars }) (λ z o k.
@@ -285,7 +293,7 @@ module _ (room : ℕ) (below : Level) (known : Valid room below) where
   }
 
   catch_fits : (inside : Inside) (cs : List FnCode) (t : Next) (y : Series) → FitsSeries room (around inside) cs y → Has (catch_part below inside t y) (FitsSaid (suc room) (around inside) cs)
-  unfolding catch_part
+  unfolding catch_part braced caught statement_rules.block words.name words.sign words.sound words.word
   catch_fits inside cs t y f = record {
     at = λ u. λ _ _ r. λ _ _ v. (
       tt,
@@ -299,7 +307,7 @@ module _ (room : ℕ) (below : Level) (known : Valid room below) where
   }
 
   pub try_statement_fits : (inside : Inside) (added : State) (t : Next) → FitsState added → Has (try_statement below inside added t) (FitsSaid (suc room) (around inside) added.codes)
-  unfolding try_statement
+  unfolding try_statement braced statement_rules.block words.sign
   try_statement_fits inside added t f = record {
     at = λ u. λ _ _ r. use_of (statements_fit (braces inside) added f) r _ (λ y v k. λ _ _ z.
         ((catch_fits inside added.codes t y k).at z, (finally_fits inside added.codes t y k).at z));

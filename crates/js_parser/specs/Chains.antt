@@ -19,7 +19,7 @@ use Rattle.js_lexer.specs.declared.token.Word.TheVariants as w
 use Rattle.js_tree.specs.declared.expr.Expr.TheVariants as e
 use Rattle.js_nodes.specs.declared.context.Closer.TheVariants as c
 
-abbrev pub argument_more : Level → Row → R Row
+unfoldable pub argument_more : Level → Row → R Row
 argument_more below r = do
   sign p.Comma
   item below (context c.Paren) r
@@ -37,22 +37,22 @@ arguments below codes = or (sign p.RightParen >> done (row [] codes nothing))
     (next (λ t. not (shows p.RightParen t)) >> some_arguments below codes)
 
 -- behind `[`
-abbrev pub index : Level → Operand → R Operand
+unfoldable pub index : Level → Operand → R Operand
 index below x = do
   y ← below.expr (context c.Bracket) x.codes
   indexed x.value x.at x.depth y
 
-abbrev pub call : Level → Operand → R Operand
+unfoldable pub call : Level → Operand → R Operand
 call below x = do
   r ← arguments below x.codes
   done (operand (e.Call x.value r.values) r.codes x.at (raised x.at (both x.depth r.depth)))
 
-abbrev pub link_kind : Level → Operand → Kind → R Operand
+unfoldable pub link_kind : Level → Operand → Kind → R Operand
 link_kind below x (k.Punct p.Dot) = member x
 link_kind below x (k.Punct p.LeftBracket) = index below x
 link_kind below x _ = call below x
 
-abbrev pub link_by : Level → Operand → Next → R Operand
+unfoldable pub link_by : Level → Operand → Next → R Operand
 link_by below x None = refused (λ _. None)
 link_by below x (Some t) = link_kind below x t.kind
 
@@ -63,7 +63,7 @@ link class room below x = do
   link_by below x t
 
 -- the arguments of a `new`, of which there may be none
-abbrev pub new_arguments : Level → List FnCode → R Row
+unfoldable pub new_arguments : Level → List FnCode → R Row
 new_arguments below codes = or (sign p.LeftParen >> arguments below codes)
     (next (λ t. not (shows p.LeftParen t)) >> done (row [] codes nothing))
 
@@ -75,7 +75,7 @@ construction room below codes = do
   r ← new_arguments below x.codes
   done (operand (e.New x.value r.values) r.codes (place t) (raised (place t) (both x.depth r.depth)))
 
-abbrev pub head : ℕ → Level → List FnCode → R Operand
+unfoldable pub head : ℕ → Level → List FnCode → R Operand
 head room below codes = or (construction room below codes) (primary room below codes)
 
 -- what stands behind `new`: properties belong to it, and the nearest arguments don't

@@ -64,19 +64,19 @@ binary room below context (suc n) codes = do
   again (λ _ t. binds_at context (suc n) t) (operation room below context (suc n)) x
 
 -- behind the `:`, with the levels of the test and of what stands before it
-abbrev pub other_branch : Level → Context → Expr → ℕ → Depth → Expr → List FnCode → R Operand
+unfoldable pub other_branch : Level → Context → Expr → ℕ → Depth → Expr → List FnCode → R Operand
 other_branch below context test at depth middle codes = do
   z ← below.assign context codes
   done (operand (e.Cond test middle z.value) z.codes at (raised at (both depth z.depth)))
 
 -- behind the `?`
-abbrev pub branches : Level → Context → Operand → R Operand
+unfoldable pub branches : Level → Context → Operand → R Operand
 branches below context x = do
   y ← below.assign (middle context) x.codes
   sign p.Colon
   other_branch below context x.value x.at (both x.depth y.depth) y.value y.codes
 
-abbrev pub chosen : ℕ → Level → Context → Operand → R Operand
+unfoldable pub chosen : ℕ → Level → Context → Operand → R Operand
 chosen room below context x = or
     (do
       takes (shows p.Question) (level_flaw room x.depth)
@@ -95,7 +95,7 @@ abbrev pub assigned_by : Next → Operand → Operand → Operand
 assigned_by None x y = x
 assigned_by (Some t) x y = above (assigned t.kind x.value y.value) x y
 
-abbrev pub assigned_or_not : ℕ → Level → Context → Operand → R Operand
+unfoldable pub assigned_or_not : ℕ → Level → Context → Operand → R Operand
 assigned_or_not room below context x = or
     (do
       t ← takes (of is_assignment) (target_flaw room x)

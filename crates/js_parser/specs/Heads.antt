@@ -34,7 +34,7 @@ head_part below closer end codes = or
       done (part (Some x.value) x.codes x.depth))
 
 -- behind the head, with its levels
-abbrev pub for_body : Level → Inside → Next → Option Stmt → Option Expr → Option Expr → State → Depth → R Said
+unfoldable pub for_body : Level → Inside → Next → Option Stmt → Option Expr → Option Expr → State → Depth → R Said
 for_body below inside t head test step added depth = do
   v ← below.statement (turning inside) added
   done (said (s.For head test step v.stmt) v.state (place t) (both depth v.depth))
@@ -47,7 +47,7 @@ for_rest below inside t head added depth = do
   for_body below inside t head y.value z.value (state z.codes added.vars) (both (both depth y.depth) z.depth)
 
 -- behind the head, with the levels of what is gone through
-abbrev pub each_body : Level → Inside → Next → List ℕ → Expr → Depth → State → R Said
+unfoldable pub each_body : Level → Inside → Next → List ℕ → Expr → Depth → State → R Said
 each_body below inside t n value depth added = do
   v ← below.statement (turning inside) added
   done (said (s.ForIn n value v.stmt) v.state (place t) (both depth v.depth))
@@ -60,18 +60,18 @@ for_each below inside t n added = do
   each_body below inside t n x.value x.depth (state x.codes added.vars)
 
 -- behind a `var` without its `;`
-abbrev pub for_declared : Level → Inside → Next → Said → R Said
+unfoldable pub for_declared : Level → Inside → Next → Said → R Said
 for_declared below inside t d = do
   sign p.Semicolon
   for_rest below inside t (Some d.stmt) d.state d.depth
 
 -- behind `var`, which stands there, and the first name, where no `in` stands
-abbrev pub for_listed : Level → Inside → Next → ℕ → State → List ℕ → R Said
+unfoldable pub for_listed : Level → Inside → Next → ℕ → State → List ℕ → R Said
 for_listed below inside t at added n = do
   d ← below.variables first_context at n added
   for_declared below inside t d
 
-abbrev pub for_named : Level → Inside → Next → ℕ → State → List ℕ → R Said
+unfoldable pub for_named : Level → Inside → Next → ℕ → State → List ℕ → R Said
 for_named below inside t at added n = or
     (do
       word w.In
@@ -86,7 +86,7 @@ for_variables below inside t at added = do
   for_named below inside t at added n
 
 -- an expression as the first part; as a statement it takes a level more
-abbrev pub for_first : ℕ → Level → Inside → Next → List (List ℕ) → Operand → R Said
+unfoldable pub for_first : ℕ → Level → Inside → Next → List (List ℕ) → Operand → R Said
 for_first room below inside t vars x = do
   takes (shows p.Semicolon) (level_flaw (room - 1) x.depth)
   for_rest below inside t (Some (s.Expr x.value)) (state x.codes vars) (raised x.at x.depth)

@@ -25,13 +25,13 @@ use Rattle.js_nodes.specs.declared.context.Closer.TheVariants as c
 -- ---- lists and objects
 
 -- one expression more, behind a comma
-abbrev pub item : Level → Context → Row → R Row
+unfoldable pub item : Level → Context → Row → R Row
 item below x r = do
   y ← below.assign x r.codes
   done (row_more r y)
 
 -- behind a comma of a list: one expression more, or none before the `]`
-abbrev pub list_more : Level → Row → R Row
+unfoldable pub list_more : Level → Row → R Row
 list_more below r = do
   sign p.Comma
   or (next (shows p.RightBracket) >> done r)
@@ -58,7 +58,7 @@ entry room below o = do
   done (entries (o.entries ++ record { key = text t; value = x.value } ∷ []) x.codes (both o.depth x.depth))
 
 -- behind a comma of an object: one entry more, or none before the `}`
-abbrev pub object_more : ℕ → Level → Entries → R Entries
+unfoldable pub object_more : ℕ → Level → Entries → R Entries
 object_more room below o = do
   sign p.Comma
   or (next (shows p.RightBrace) >> done o)
@@ -111,7 +111,7 @@ primary_kind room below codes t (k.Punct p.LeftBracket) = list below codes >>= (
 primary_kind room below codes t (k.Punct p.LeftBrace) = object room below codes >>= (λ o. done (operand (e.Table o.entries) o.codes (place t) (raised (place t) o.depth)))
 primary_kind room below codes t _ = refused (λ _. None)
 
-abbrev pub primary_by : ℕ → Level → List FnCode → Next → R Operand
+unfoldable pub primary_by : ℕ → Level → List FnCode → Next → R Operand
 primary_by room below codes None = refused (λ _. None)
 primary_by room below codes (Some t) = primary_kind room below codes (Some t) t.kind
 

@@ -43,12 +43,12 @@ statement_kind room below inside added t (k.Word w.Switch) = switch_statement be
 statement_kind room below inside added t (k.Word w.Try) = try_statement below inside added t
 statement_kind room below inside added t _ = refused (λ _. None)
 
-abbrev pub statement_by : ℕ → Level → Inside → State → Next → R Said
+unfoldable pub statement_by : ℕ → Level → Inside → State → Next → R Said
 statement_by room below inside added None = refused (λ _. None)
 statement_by room below inside added (Some t) = statement_kind room below inside added (Some t) t.kind
 
 -- a statement that its first token tells
-abbrev pub told_statement : ℕ → Level → Inside → State → R Said
+unfoldable pub told_statement : ℕ → Level → Inside → State → R Said
 told_statement room below inside added = do
   t ← sound (too_deep room (of requires_part)) (opens inside)
   statement_by room below inside added t

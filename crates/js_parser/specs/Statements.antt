@@ -29,7 +29,7 @@ use Rattle.js_nodes.specs.declared.context.Closer.TheVariants as c
 
 -- ---- blocks
 
-abbrev pub series_more : Inside → Level → Series → R Series
+unfoldable pub series_more : Inside → Level → Series → R Series
 series_more inside below y = do
   x ← below.statement inside y.state
   done (series (y.stmts ++ x.stmt ∷ []) x.state (both y.depth x.depth))
@@ -39,13 +39,13 @@ unfoldable pub statements : Inside → Level → State → R Series
 statements inside below added = again (λ _ t. in_block t) (series_more inside below) (series [] added nothing)
 
 -- Block, behind its `{`
-abbrev pub block : Inside → Level → State → R Series
+unfoldable pub block : Inside → Level → State → R Series
 block inside below added = do
   y ← statements (braces inside) below added
   sign p.RightBrace
   done y
 
-abbrev pub braced : Inside → Level → State → R Series
+unfoldable pub braced : Inside → Level → State → R Series
 braced inside below added = sign p.LeftBrace >> block inside below added
 
 unfoldable pub block_statement : Level → Inside → State → Next → R Said
@@ -59,7 +59,7 @@ abbrev pub decls_more : Decls → List ℕ → Option Expr → State → Depth �
 decls_more d n value added depth = decls (d.decls ++ record { name = n; value = value } ∷ []) added (both d.depth depth)
 
 -- VariableDeclaration, behind its name; for the value of an Initialiser a level must be left
-abbrev pub initial : ℕ → Level → Context → List ℕ → Decls → R Decls
+unfoldable pub initial : ℕ → Level → Context → List ℕ → Decls → R Decls
 initial room below x n d = or
     (do
       deeper room (shows p.Assign)
@@ -91,7 +91,7 @@ var_statement room below inside added t = do
 
 -- ---- `if`, `do` and `while` (12.5 and 12.6)
 
-abbrev pub condition : Level → List FnCode → R Operand
+unfoldable pub condition : Level → List FnCode → R Operand
 condition below codes = do
   sign p.LeftParen
   x ← below.expr (context c.Paren) codes
@@ -99,13 +99,13 @@ condition below codes = do
   done x
 
 -- behind an `else`, with the levels of the condition and of what stands before it
-abbrev pub other_part : Level → Inside → Next → Expr → Depth → Said → R Said
+unfoldable pub other_part : Level → Inside → Next → Expr → Depth → Said → R Said
 other_part below inside t test depth y = do
   z ← below.statement inside y.state
   done (said (s.If test y.stmt (Some z.stmt)) z.state (place t) (both depth z.depth))
 
 -- behind the condition, with its levels, and what stands before an `else`
-abbrev pub else_part : Level → Inside → Next → Expr → Depth → Said → R Said
+unfoldable pub else_part : Level → Inside → Next → Expr → Depth → Said → R Said
 else_part below inside t test depth y = or
     (do
       word w.Else
@@ -122,7 +122,7 @@ if_statement below inside added t = do
   else_part below inside t x.value x.depth y
 
 -- the condition of a `do`, behind its body
-abbrev pub repeated : Level → Next → Said → R Said
+unfoldable pub repeated : Level → Next → Said → R Said
 repeated below t y = do
   x ← condition below y.state.codes
   ended (s.DoWhile y.stmt x.value) (state x.codes y.state.vars) (place t) (both y.depth x.depth)
@@ -164,14 +164,14 @@ case_body below inside y test = do
   z ← again (λ _ t. in_case t) (series_more (choosing inside) below) (series [] y.state nothing)
   done (cases (y.cases ++ record { test = test; body = z.stmts } ∷ []) z.state y.has_default (both y.depth z.depth))
 
-abbrev pub case_clause : Level → Inside → Cases → R Cases
+unfoldable pub case_clause : Level → Inside → Cases → R Cases
 case_clause below inside y = do
   word w.Case
   x ← below.expr (context c.Case) y.state.codes
   sign p.Colon
   case_body below inside (cases y.cases (state x.codes y.state.vars) y.has_default (both y.depth x.depth)) (Some x.value)
 
-abbrev pub default_clause : Level → Inside → Cases → R Cases
+unfoldable pub default_clause : Level → Inside → Cases → R Cases
 default_clause below inside y = do
   one (λ t. says w.Default t && not y.has_default)
   sign p.Colon
@@ -185,7 +185,7 @@ unfoldable pub switch_cases : Level → Inside → State → R Cases
 switch_cases below inside added = again (λ _ u. is_case u) (case_part below inside) (cases [] added false nothing)
 
 -- the parts, and the `}` behind them
-abbrev pub switch_parts : Level → Inside → Next → Expr → Depth → State → R Said
+unfoldable pub switch_parts : Level → Inside → Next → Expr → Depth → State → R Said
 switch_parts below inside t test depth added = do
   y ← switch_cases below inside added
   sign p.RightBrace
@@ -209,7 +209,7 @@ finally_part below inside t y = do
   done (said (s.Try y.stmts None (Some v.stmts)) v.state (place t) (both y.depth v.depth))
 
 -- behind the block of a `catch`, with the levels of both blocks
-abbrev pub caught : Level → Inside → Next → List Stmt → Depth → Handler → State → R Said
+unfoldable pub caught : Level → Inside → Next → List Stmt → Depth → Handler → State → R Said
 caught below inside t stmts depth h added = or
     (do
       word w.Finally

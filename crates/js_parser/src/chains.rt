@@ -20,6 +20,7 @@ use sqlite_items::Items;
 
 impl<F: Fn(&mut Cursor<'_>, u8, Ask) -> Result<Answer, ParseError>> Rules<F> {
     /// Behind an argument: a comma and one more.
+    #[tactic(auto, unfolding(crate::specs::Chains::argument_more))]
     pub(crate) fn argument_more(
         &self,
         room: u8,
@@ -64,7 +65,7 @@ impl<F: Fn(&mut Cursor<'_>, u8, Ask) -> Result<Answer, ParseError>> Rules<F> {
     }
 
     /// Arguments behind their `(`.
-    #[tactic(auto, unfolding(crate::specs::Chains::arguments))]
+    #[tactic(auto, unfolding(crate::specs::Chains::arguments, js_cursor::specs::Words::sign))]
     pub(crate) fn arguments(
         &self,
         room: u8,
@@ -86,6 +87,7 @@ impl<F: Fn(&mut Cursor<'_>, u8, Ask) -> Result<Answer, ParseError>> Rules<F> {
     }
 
     /// A property behind its `[`.
+    #[tactic(auto, unfolding(crate::specs::Chains::index))]
     pub(crate) fn index(
         &self,
         room: u8,
@@ -104,6 +106,7 @@ impl<F: Fn(&mut Cursor<'_>, u8, Ask) -> Result<Answer, ParseError>> Rules<F> {
     }
 
     /// A call behind its `(`.
+    #[tactic(auto, unfolding(crate::specs::Chains::call))]
     pub(crate) fn call(
         &self,
         room: u8,
@@ -122,6 +125,7 @@ impl<F: Fn(&mut Cursor<'_>, u8, Ask) -> Result<Answer, ParseError>> Rules<F> {
     }
 
     /// What goes on with this token, behind it.
+    #[tactic(auto, unfolding(crate::specs::Chains::link_by, crate::specs::Chains::link_kind))]
     pub(crate) fn link_by(
         &self,
         room: u8,
@@ -144,7 +148,7 @@ impl<F: Fn(&mut Cursor<'_>, u8, Ask) -> Result<Answer, ParseError>> Rules<F> {
     }
 
     /// One property more.
-    #[tactic(auto, unfolding(crate::specs::Chains::link))]
+    #[tactic(auto, unfolding(crate::specs::Chains::link, js_cursor::specs::Words::takes, js_cursor::specs::Words::sound))]
     pub(crate) fn access(
         &self,
         room: u8,
@@ -171,7 +175,7 @@ impl<F: Fn(&mut Cursor<'_>, u8, Ask) -> Result<Answer, ParseError>> Rules<F> {
     }
 
     /// One property or call more.
-    #[tactic(auto, unfolding(crate::specs::Chains::link))]
+    #[tactic(auto, unfolding(crate::specs::Chains::link, js_cursor::specs::Words::takes, js_cursor::specs::Words::sound))]
     pub(crate) fn link(
         &self,
         room: u8,
@@ -198,6 +202,7 @@ impl<F: Fn(&mut Cursor<'_>, u8, Ask) -> Result<Answer, ParseError>> Rules<F> {
     }
 
     /// The arguments of a `new`, if there are any.
+    #[tactic(auto, unfolding(crate::specs::Chains::new_arguments, js_cursor::specs::Words::sign))]
     pub(crate) fn new_arguments(
         &self,
         room: u8,
@@ -218,7 +223,7 @@ impl<F: Fn(&mut Cursor<'_>, u8, Ask) -> Result<Answer, ParseError>> Rules<F> {
         }
     }
 
-    #[tactic(auto, unfolding(crate::specs::Chains::construction))]
+    #[tactic(auto, unfolding(crate::specs::Chains::construction, js_cursor::specs::Words::deeper, js_cursor::specs::Words::sound))]
     pub(crate) fn construction(
         &self,
         room: u8,
@@ -242,7 +247,7 @@ impl<F: Fn(&mut Cursor<'_>, u8, Ask) -> Result<Answer, ParseError>> Rules<F> {
         Ok(new_node(tokens.alloc(), x.value, at, x.depth, row)?)
     }
 
-    #[tactic(auto, using(crate::proofs::DecidedMay::construction_may))]
+    #[tactic(auto, using(crate::proofs::DecidedMay::construction_may), unfolding(crate::specs::Chains::head))]
     pub(crate) fn head(
         &self,
         room: u8,

@@ -17,7 +17,7 @@ use js_lexer::Punct;
 use js_nodes::nodes::{assign_node, binary_node, comma_node, cond_node};
 use js_nodes::{Context, Depth, Fault, Operand, ParseError};
 use js_tree::{Expr, FnCode};
-use sqlite_items::Items;
+use sqlite_items::{Boxed, Items};
 
 impl<F: Fn(&mut Cursor<'_>, u8, Ask) -> Result<Answer, ParseError>> Rules<F> {
     #[tactic(auto, unfolding(crate::specs::Expressions::postfix))]
@@ -37,7 +37,7 @@ impl<F: Fn(&mut Cursor<'_>, u8, Ask) -> Result<Answer, ParseError>> Rules<F> {
         tokens.stepped(room, x)
     }
 
-    #[tactic(auto, unfolding(crate::specs::Expressions::prefix))]
+    #[tactic(auto, unfolding(crate::specs::Expressions::prefix, js_cursor::specs::Words::deeper, js_cursor::specs::Words::sound))]
     pub(crate) fn prefix(
         &self,
         context: Context,
@@ -85,7 +85,7 @@ impl<F: Fn(&mut Cursor<'_>, u8, Ask) -> Result<Answer, ParseError>> Rules<F> {
     }
 
     /// One operator and operand more.
-    #[tactic(auto, unfolding(crate::specs::Expressions::operation))]
+    #[tactic(auto, unfolding(crate::specs::Expressions::operation, js_cursor::specs::Words::takes, js_cursor::specs::Words::sound))]
     pub(crate) fn operation(
         &self,
         context: Context,
@@ -185,6 +185,7 @@ impl<F: Fn(&mut Cursor<'_>, u8, Ask) -> Result<Answer, ParseError>> Rules<F> {
     }
 
     /// The `? :` behind an operand, if there is one.
+    #[tactic(auto, unfolding(crate::specs::Expressions::chosen, js_cursor::specs::Words::takes, js_cursor::specs::Words::sound))]
     pub(crate) fn chosen(
         &self,
         context: Context,
@@ -212,6 +213,7 @@ impl<F: Fn(&mut Cursor<'_>, u8, Ask) -> Result<Answer, ParseError>> Rules<F> {
     }
 
     /// What stands behind the `?` of a conditional.
+    #[tactic(auto, unfolding(crate::specs::Expressions::branches))]
     pub(crate) fn branches(
         &self,
         context: Context,
@@ -235,14 +237,15 @@ impl<F: Fn(&mut Cursor<'_>, u8, Ask) -> Result<Answer, ParseError>> Rules<F> {
     }
 
     /// What stands behind the `:` of a conditional.
+    #[tactic(auto, unfolding(crate::specs::Expressions::other_branch))]
     fn other_branch(
         &self,
         context: Context,
         room: u8,
-        test: Expr,
+        test: Boxed<Expr>,
         at: u32,
         depth: Depth,
-        middle: Expr,
+        middle: Boxed<Expr>,
         codes: Items<FnCode>,
         tokens: &mut Cursor<'_>,
     ) -> Result<Operand, ParseError>
@@ -276,6 +279,7 @@ impl<F: Fn(&mut Cursor<'_>, u8, Ask) -> Result<Answer, ParseError>> Rules<F> {
     }
 
     /// The assignment behind its target, if there is one.
+    #[tactic(auto, unfolding(crate::specs::Expressions::assigned_or_not, js_cursor::specs::Words::takes, js_cursor::specs::Words::sound))]
     pub(crate) fn assigned(
         &self,
         context: Context,
@@ -344,7 +348,7 @@ impl<F: Fn(&mut Cursor<'_>, u8, Ask) -> Result<Answer, ParseError>> Rules<F> {
     }
 
     /// A comma and one expression more.
-    #[tactic(auto, unfolding(crate::specs::Expressions::comma))]
+    #[tactic(auto, unfolding(crate::specs::Expressions::comma, js_cursor::specs::Words::takes, js_cursor::specs::Words::sound))]
     pub(crate) fn comma(
         &self,
         context: Context,

@@ -34,7 +34,7 @@ pub(crate) fn some_parameters(tokens: &mut Cursor<'_>) -> Result<Names, ParseErr
 }
 
 /// A function's parameters in their parentheses.
-#[tactic(auto, unfolding(crate::specs::Functions::parameters))]
+#[tactic(auto, unfolding(crate::specs::Functions::parameters, js_cursor::specs::Words::sign))]
 pub(crate) fn parameters(tokens: &mut Cursor<'_>) -> Result<Names, ParseError>
     ensures { Reads (read None functions.parameters tokens.old) result tokens.new }
 {

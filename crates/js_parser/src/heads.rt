@@ -17,7 +17,7 @@ use js_lexer::{Punct, Token, Word};
 use js_nodes::names::name_of;
 use js_nodes::{
     Closer, Context, Depth, Inside, NOTHING, Names, Operand, ParseError, Part, Said, State,
-    stmt_node,
+    stmt_node, unboxed,
 };
 use js_tree::{Expr, FnCode, Stmt};
 use page_units::Text;
@@ -79,7 +79,7 @@ impl<F: Fn(&mut Cursor<'_>, u8, Ask) -> Result<Answer, ParseError>> Rules<F> {
     }
 
     /// An expression that may be left out, to the punctuator behind it.
-    #[tactic(auto, unfolding(crate::specs::Heads::head_part))]
+    #[tactic(auto, unfolding(crate::specs::Heads::head_part, js_cursor::specs::Words::sign))]
     pub(crate) fn head_part(
         &self,
         closer: Closer,
@@ -144,14 +144,15 @@ impl<F: Fn(&mut Cursor<'_>, u8, Ask) -> Result<Answer, ParseError>> Rules<F> {
     }
 
     /// A `for` behind its head.
+    #[tactic(auto, unfolding(crate::specs::Heads::for_body))]
     fn for_body(
         &self,
         inside: Inside,
         room: u8,
         token: &Token,
         first: Option<Boxed<Stmt>>,
-        test: Option<Expr>,
-        step: Option<Expr>,
+        test: Option<Boxed<Expr>>,
+        step: Option<Boxed<Expr>>,
         state: State,
         depth: Depth,
         tokens: &mut Cursor<'_>,
@@ -166,7 +167,7 @@ impl<F: Fn(&mut Cursor<'_>, u8, Ask) -> Result<Answer, ParseError>> Rules<F> {
         let body = self.statement_below(inside.in_loop(), room - 1, state, tokens)?;
         Ok(stmt_node(
             tokens.alloc(),
-            Stmt::For(first, test, step, body.stmt),
+            Stmt::For(first, unboxed(test), unboxed(step), body.stmt),
             body.state,
             token.at,
             depth.both(body.depth),
@@ -201,13 +202,14 @@ impl<F: Fn(&mut Cursor<'_>, u8, Ask) -> Result<Answer, ParseError>> Rules<F> {
     }
 
     /// The same behind its head.
+    #[tactic(auto, unfolding(crate::specs::Heads::each_body))]
     fn each_body(
         &self,
         inside: Inside,
         room: u8,
         token: &Token,
         name: Text,
-        value: Expr,
+        value: Boxed<Expr>,
         depth: Depth,
         state: State,
         tokens: &mut Cursor<'_>,
@@ -222,7 +224,7 @@ impl<F: Fn(&mut Cursor<'_>, u8, Ask) -> Result<Answer, ParseError>> Rules<F> {
         let body = self.statement_below(inside.in_loop(), room - 1, state, tokens)?;
         Ok(stmt_node(
             tokens.alloc(),
-            Stmt::ForIn(name, value, body.stmt),
+            Stmt::ForIn(name, value.into_inner(), body.stmt),
             body.state,
             token.at,
             depth.both(body.depth),
@@ -230,6 +232,7 @@ impl<F: Fn(&mut Cursor<'_>, u8, Ask) -> Result<Answer, ParseError>> Rules<F> {
     }
 
     /// A `for` behind its `var` and the first name.
+    #[tactic(auto, unfolding(crate::specs::Heads::for_named, js_cursor::specs::Words::word))]
     pub(crate) fn for_named(
         &self,
         inside: Inside,
@@ -256,6 +259,7 @@ impl<F: Fn(&mut Cursor<'_>, u8, Ask) -> Result<Answer, ParseError>> Rules<F> {
     }
 
     /// The same, where no `in` stands behind the name.
+    #[tactic(auto, unfolding(crate::specs::Heads::for_listed))]
     pub(crate) fn for_listed(
         &self,
         inside: Inside,
@@ -277,6 +281,7 @@ impl<F: Fn(&mut Cursor<'_>, u8, Ask) -> Result<Answer, ParseError>> Rules<F> {
     }
 
     /// The same behind all of its declarations.
+    #[tactic(auto, unfolding(crate::specs::Heads::for_declared))]
     pub(crate) fn for_declared(
         &self,
         inside: Inside,
@@ -347,6 +352,7 @@ impl<F: Fn(&mut Cursor<'_>, u8, Ask) -> Result<Answer, ParseError>> Rules<F> {
     }
 
     /// The same where the expression is the first part.
+    #[tactic(auto, unfolding(crate::specs::Heads::for_first, js_cursor::specs::Words::takes, js_cursor::specs::Words::sound))]
     fn for_first(
         &self,
         inside: Inside,
@@ -369,7 +375,7 @@ impl<F: Fn(&mut Cursor<'_>, u8, Ask) -> Result<Answer, ParseError>> Rules<F> {
             Some(fault) => Err(ParseError::Shown(fault)),
             None => {
                 tokens.advance();
-                let first = Boxed::new(tokens.alloc(), Stmt::Expr(x.value))?;
+                let first = Boxed::new(tokens.alloc(), Stmt::Expr(x.value.into_inner()))?;
                 let state = State {
                     codes: x.codes,
                     vars,
@@ -388,7 +394,7 @@ impl<F: Fn(&mut Cursor<'_>, u8, Ask) -> Result<Answer, ParseError>> Rules<F> {
     }
 
     /// A `for` behind its `(`.
-    #[tactic(auto, unfolding(crate::specs::Heads::for_head))]
+    #[tactic(auto, unfolding(crate::specs::Heads::for_head, js_cursor::specs::Words::sign))]
     pub(crate) fn for_head(
         &self,
         inside: Inside,

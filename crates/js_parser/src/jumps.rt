@@ -18,11 +18,11 @@ use js_nodes::{
     Cases, Closer, Context, Depth, Inside, NOTHING, ParseError, Said, Series, State, stmt_node,
 };
 use js_tree::{Expr, Handler, Stmt};
-use sqlite_items::Items;
+use sqlite_items::{Boxed, Items};
 
 impl<F: Fn(&mut Cursor<'_>, u8, Ask) -> Result<Answer, ParseError>> Rules<F> {
     /// A `return` behind its word.
-    #[tactic(auto, unfolding(crate::specs::Statements::return_statement))]
+    #[tactic(auto, unfolding(crate::specs::Statements::return_statement, js_cursor::specs::Rules::ended, js_cursor::specs::Rules::semi, js_cursor::specs::Words::sign))]
     pub(crate) fn return_statement(
         &self,
         inside: Inside,
@@ -51,7 +51,12 @@ impl<F: Fn(&mut Cursor<'_>, u8, Ask) -> Result<Answer, ParseError>> Rules<F> {
             codes: x.codes,
             vars,
         };
-        tokens.ended(Stmt::Return(Some(x.value)), state, token.at, x.depth)
+        tokens.ended(
+            Stmt::Return(Some(x.value.into_inner())),
+            state,
+            token.at,
+            x.depth,
+        )
     }
 
     /// A `throw` behind its word.
@@ -87,7 +92,7 @@ impl<F: Fn(&mut Cursor<'_>, u8, Ask) -> Result<Answer, ParseError>> Rules<F> {
             codes: x.codes,
             vars,
         };
-        tokens.ended(Stmt::Throw(x.value), state, token.at, x.depth)
+        tokens.ended(Stmt::Throw(x.value.into_inner()), state, token.at, x.depth)
     }
 
     /// A part of a `switch` behind its `:`.
@@ -97,7 +102,7 @@ impl<F: Fn(&mut Cursor<'_>, u8, Ask) -> Result<Answer, ParseError>> Rules<F> {
         inside: Inside,
         room: u8,
         cases: Cases,
-        test: Option<Expr>,
+        test: Option<Boxed<Expr>>,
         tokens: &mut Cursor<'_>,
     ) -> Result<Cases, ParseError>
         requires nests { Nests (room - 1) (F.pre self.now.below) (F.post self.now.below) }
@@ -115,6 +120,7 @@ impl<F: Fn(&mut Cursor<'_>, u8, Ask) -> Result<Answer, ParseError>> Rules<F> {
     }
 
     /// A `case`.
+    #[tactic(auto, unfolding(crate::specs::Statements::case_clause))]
     pub(crate) fn case_clause(
         &self,
         inside: Inside,
@@ -146,6 +152,7 @@ impl<F: Fn(&mut Cursor<'_>, u8, Ask) -> Result<Answer, ParseError>> Rules<F> {
     }
 
     /// A `default`.
+    #[tactic(auto, unfolding(crate::specs::Statements::default_clause))]
     pub(crate) fn default_clause(
         &self,
         inside: Inside,
@@ -175,7 +182,7 @@ impl<F: Fn(&mut Cursor<'_>, u8, Ask) -> Result<Answer, ParseError>> Rules<F> {
     }
 
     /// A part of a `switch`.
-    #[tactic(auto, unfolding(crate::specs::Statements::case_part))]
+    #[tactic(auto, unfolding(crate::specs::Statements::case_part, crate::specs::Statements::case_clause, js_cursor::specs::Words::word))]
     pub(crate) fn case_part(
         &self,
         inside: Inside,
@@ -247,12 +254,13 @@ impl<F: Fn(&mut Cursor<'_>, u8, Ask) -> Result<Answer, ParseError>> Rules<F> {
     }
 
     /// The parts of a `switch`, and the `}` behind them.
+    #[tactic(auto, unfolding(crate::specs::Statements::switch_parts))]
     fn switch_parts(
         &self,
         inside: Inside,
         room: u8,
         token: &Token,
-        test: Expr,
+        test: Boxed<Expr>,
         depth: Depth,
         state: State,
         tokens: &mut Cursor<'_>,
@@ -268,7 +276,7 @@ impl<F: Fn(&mut Cursor<'_>, u8, Ask) -> Result<Answer, ParseError>> Rules<F> {
         tokens.take(Punct::RightBrace)?;
         Ok(stmt_node(
             tokens.alloc(),
-            Stmt::Switch(test, cases.cases),
+            Stmt::Switch(test.into_inner(), cases.cases),
             cases.state,
             token.at,
             depth.both(cases.depth),
@@ -305,6 +313,7 @@ impl<F: Fn(&mut Cursor<'_>, u8, Ask) -> Result<Answer, ParseError>> Rules<F> {
     }
 
     /// The `finally` behind a `catch`, if there is one.
+    #[tactic(auto, unfolding(crate::specs::Statements::caught, js_cursor::specs::Words::word))]
     pub(crate) fn caught(
         &self,
         inside: Inside,
@@ -435,6 +444,6 @@ impl<F: Fn(&mut Cursor<'_>, u8, Ask) -> Result<Answer, ParseError>> Rules<F> {
             codes: x.codes,
             vars,
         };
-        tokens.ended(Stmt::Expr(x.value), state, x.at, x.depth)
+        tokens.ended(Stmt::Expr(x.value.into_inner()), state, x.at, x.depth)
     }
 }

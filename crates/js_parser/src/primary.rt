@@ -16,12 +16,13 @@ use js_lexer::{Kind, Punct, Token, Word};
 use js_nodes::classes::key_text;
 use js_nodes::codes::code_number;
 use js_nodes::nodes::{more_entries, more_values};
-use js_nodes::{Closer, Context, Entries, NOTHING, Operand, ParseError, Row, node};
+use js_nodes::{Closer, Context, Entries, Operand, ParseError, Row, node};
 use js_tree::{Expr, FnCode};
 use sqlite_items::Items;
 
 impl<F: Fn(&mut Cursor<'_>, u8, Ask) -> Result<Answer, ParseError>> Rules<F> {
     /// One expression more of a row.
+    #[tactic(auto, unfolding(crate::specs::Primary::item))]
     pub(crate) fn item(
         &self,
         context: Context,
@@ -41,6 +42,7 @@ impl<F: Fn(&mut Cursor<'_>, u8, Ask) -> Result<Answer, ParseError>> Rules<F> {
     }
 
     /// Behind a list's item: a comma with one more, or with none before the `]`.
+    #[tactic(auto, unfolding(crate::specs::Primary::list_more))]
     pub(crate) fn list_more(
         &self,
         room: u8,
@@ -89,7 +91,7 @@ impl<F: Fn(&mut Cursor<'_>, u8, Ask) -> Result<Answer, ParseError>> Rules<F> {
     }
 
     /// A list behind its `[`.
-    #[tactic(auto, unfolding(crate::specs::Primary::list))]
+    #[tactic(auto, unfolding(crate::specs::Primary::list, js_cursor::specs::Words::sign))]
     pub(crate) fn list(
         &self,
         room: u8,
@@ -110,7 +112,7 @@ impl<F: Fn(&mut Cursor<'_>, u8, Ask) -> Result<Answer, ParseError>> Rules<F> {
         }
     }
 
-    #[tactic(auto, unfolding(crate::specs::Primary::entry))]
+    #[tactic(auto, unfolding(crate::specs::Primary::entry, js_cursor::specs::Words::sound, js_cursor::specs::Words::sign))]
     pub(crate) fn entry(
         &self,
         room: u8,
@@ -143,6 +145,7 @@ impl<F: Fn(&mut Cursor<'_>, u8, Ask) -> Result<Answer, ParseError>> Rules<F> {
     }
 
     /// Behind an object's entry: a comma with one more, or with none before the `}`.
+    #[tactic(auto, unfolding(crate::specs::Primary::object_more))]
     pub(crate) fn object_more(
         &self,
         room: u8,
@@ -186,7 +189,7 @@ impl<F: Fn(&mut Cursor<'_>, u8, Ask) -> Result<Answer, ParseError>> Rules<F> {
     }
 
     /// An object behind its `{`.
-    #[tactic(auto, unfolding(crate::specs::Primary::object))]
+    #[tactic(auto, unfolding(crate::specs::Primary::object, js_cursor::specs::Words::sign))]
     pub(crate) fn object(
         &self,
         room: u8,
@@ -229,7 +232,13 @@ impl<F: Fn(&mut Cursor<'_>, u8, Ask) -> Result<Answer, ParseError>> Rules<F> {
         };
         let number = code_number(&codes)?;
         let all = self.function_code(room, name, codes, tokens)?;
-        Ok(node(Expr::Fun(number), all.codes, token.at, all.depth))
+        Ok(node(
+            tokens.alloc(),
+            Expr::Fun(number),
+            all.codes,
+            token.at,
+            all.depth,
+        )?)
     }
 
     /// An expression behind its `(`.
@@ -249,11 +258,11 @@ impl<F: Fn(&mut Cursor<'_>, u8, Ask) -> Result<Answer, ParseError>> Rules<F> {
     {
         let x = self.expr_below(Context::of(Closer::Paren), room - 1, codes, tokens)?;
         tokens.take(Punct::RightParen)?;
-        Ok(node(x.value, x.codes, token.at, x.depth))
+        Ok(x.in_parentheses(token.at))
     }
 
     /// What begins with this token, behind it.
-    #[tactic(auto, unfolding(crate::specs::Primary::primary_kind))]
+    #[tactic(auto, unfolding(crate::specs::Primary::primary_kind, crate::specs::Primary::primary_by))]
     pub(crate) fn primary_by(
         &self,
         room: u8,
@@ -268,33 +277,30 @@ impl<F: Fn(&mut Cursor<'_>, u8, Ask) -> Result<Answer, ParseError>> Rules<F> {
         ensures height { IfOk result (λ x. x.depth.height ≤ room) }
     {
         match &token.kind {
-            Kind::Name(name) => Ok(node(Expr::Name(name.clone()?), codes, token.at, NOTHING)),
-            Kind::Num(number) => Ok(node(Expr::Num(*number), codes, token.at, NOTHING)),
-            Kind::Str(text) => Ok(node(Expr::Str(text.clone()?), codes, token.at, NOTHING)),
-            Kind::Word(Word::This) => Ok(node(Expr::This, codes, token.at, NOTHING)),
-            Kind::Word(Word::True) => Ok(node(Expr::Bool(true), codes, token.at, NOTHING)),
-            Kind::Word(Word::False) => Ok(node(Expr::Bool(false), codes, token.at, NOTHING)),
-            Kind::Word(Word::Null) => Ok(node(Expr::Null, codes, token.at, NOTHING)),
+            Kind::Name(name) => tokens.leaf(Expr::Name(name.clone()?), codes, token),
+            Kind::Num(number) => tokens.leaf(Expr::Num(*number), codes, token),
+            Kind::Str(text) => tokens.leaf(Expr::Str(text.clone()?), codes, token),
+            Kind::Word(Word::This) => tokens.leaf(Expr::This, codes, token),
+            Kind::Word(Word::True) => tokens.leaf(Expr::Bool(true), codes, token),
+            Kind::Word(Word::False) => tokens.leaf(Expr::Bool(false), codes, token),
+            Kind::Word(Word::Null) => tokens.leaf(Expr::Null, codes, token),
             Kind::Word(Word::Function) => self.function(room, codes, token, tokens),
             Kind::Punct(Punct::LeftParen) => self.parens(room, codes, token, tokens),
             Kind::Punct(Punct::LeftBracket) => {
                 let row = self.list(room, codes, tokens)?;
-                Ok(node(Expr::Array(row.values), row.codes, token.at, row.depth))
+                let value = Expr::Array(row.values);
+                Ok(node(tokens.alloc(), value, row.codes, token.at, row.depth)?)
             }
             Kind::Punct(Punct::LeftBrace) => {
                 let object = self.object(room, codes, tokens)?;
-                Ok(node(
-                    Expr::Table(object.entries.into_items()),
-                    object.codes,
-                    token.at,
-                    object.depth,
-                ))
+                let value = Expr::Table(object.entries.into_items());
+                Ok(node(tokens.alloc(), value, object.codes, token.at, object.depth)?)
             }
             _ => Err(ParseError::Unfit),
         }
     }
 
-    #[tactic(auto, unfolding(crate::specs::Primary::primary))]
+    #[tactic(auto, unfolding(crate::specs::Primary::primary, js_cursor::specs::Words::sound))]
     pub(crate) fn primary(
         &self,
         room: u8,

@@ -22,7 +22,7 @@ use js_tree::Stmt;
 
 impl<F: Fn(&mut Cursor<'_>, u8, Ask) -> Result<Answer, ParseError>> Rules<F> {
     /// The statement that begins with this token, behind it.
-    #[tactic(auto, unfolding(crate::specs::Sources::statement_kind))]
+    #[tactic(auto, unfolding(crate::specs::Sources::statement_kind, crate::specs::Sources::statement_by))]
     pub(crate) fn statement_by(
         &self,
         inside: Inside,
@@ -64,6 +64,7 @@ impl<F: Fn(&mut Cursor<'_>, u8, Ask) -> Result<Answer, ParseError>> Rules<F> {
     }
 
     /// A statement that its first token tells.
+    #[tactic(auto, unfolding(crate::specs::Sources::told_statement, js_cursor::specs::Words::sound))]
     pub(crate) fn told_statement(
         &self,
         inside: Inside,
@@ -87,7 +88,7 @@ impl<F: Fn(&mut Cursor<'_>, u8, Ask) -> Result<Answer, ParseError>> Rules<F> {
         self.statement_by(inside, room, state, token, tokens)
     }
 
-    #[tactic(auto, using(crate::proofs::DecidedMay::opening_may), unfolding(crate::specs::Sources::statement))]
+    #[tactic(auto, using(crate::proofs::DecidedMay::opening_may), unfolding(crate::specs::Sources::statement, crate::specs::Sources::told_statement))]
     pub(crate) fn statement_some(
         &self,
         inside: Inside,

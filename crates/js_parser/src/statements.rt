@@ -21,10 +21,11 @@ use js_nodes::{
 };
 use js_tree::{Expr, FnCode, Stmt};
 use page_units::Text;
-use sqlite_items::Items;
+use sqlite_items::{Boxed, Items};
 
 impl<F: Fn(&mut Cursor<'_>, u8, Ask) -> Result<Answer, ParseError>> Rules<F> {
     /// One statement more.
+    #[tactic(auto, unfolding(crate::specs::Statements::series_more))]
     pub(crate) fn series_more(
         &self,
         inside: Inside,
@@ -65,6 +66,7 @@ impl<F: Fn(&mut Cursor<'_>, u8, Ask) -> Result<Answer, ParseError>> Rules<F> {
     }
 
     /// A block behind its `{`.
+    #[tactic(auto, unfolding(crate::specs::Statements::block))]
     pub(crate) fn block(
         &self,
         inside: Inside,
@@ -84,6 +86,7 @@ impl<F: Fn(&mut Cursor<'_>, u8, Ask) -> Result<Answer, ParseError>> Rules<F> {
     }
 
     /// A block.
+    #[tactic(auto, unfolding(crate::specs::Statements::braced))]
     pub(crate) fn braced(
         &self,
         inside: Inside,
@@ -127,6 +130,7 @@ impl<F: Fn(&mut Cursor<'_>, u8, Ask) -> Result<Answer, ParseError>> Rules<F> {
     }
 
     /// A declaration behind its name.
+    #[tactic(auto, unfolding(crate::specs::Statements::initial, js_cursor::specs::Words::deeper, js_cursor::specs::Words::sound))]
     pub(crate) fn initial(
         &self,
         context: Context,
@@ -274,6 +278,7 @@ impl<F: Fn(&mut Cursor<'_>, u8, Ask) -> Result<Answer, ParseError>> Rules<F> {
     }
 
     /// An expression in parentheses.
+    #[tactic(auto, unfolding(crate::specs::Statements::condition))]
     pub(crate) fn condition(
         &self,
         room: u8,
@@ -293,12 +298,13 @@ impl<F: Fn(&mut Cursor<'_>, u8, Ask) -> Result<Answer, ParseError>> Rules<F> {
     }
 
     /// An `else`, if there is one, behind the condition and what stands before it.
+    #[tactic(auto, unfolding(crate::specs::Statements::else_part, js_cursor::specs::Words::word))]
     pub(crate) fn else_part(
         &self,
         inside: Inside,
         room: u8,
         token: &Token,
-        test: Expr,
+        test: Boxed<Expr>,
         depth: Depth,
         then: Said,
         tokens: &mut Cursor<'_>,
@@ -325,7 +331,7 @@ impl<F: Fn(&mut Cursor<'_>, u8, Ask) -> Result<Answer, ParseError>> Rules<F> {
         }
         Ok(stmt_node(
             tokens.alloc(),
-            Stmt::If(test, then.stmt, None),
+            Stmt::If(test.into_inner(), then.stmt, None),
             then.state,
             token.at,
             depth.both(then.depth),
@@ -333,12 +339,13 @@ impl<F: Fn(&mut Cursor<'_>, u8, Ask) -> Result<Answer, ParseError>> Rules<F> {
     }
 
     /// An `else` behind its word, with the levels of all that stands before it.
+    #[tactic(auto, unfolding(crate::specs::Statements::other_part))]
     pub(crate) fn other_part(
         &self,
         inside: Inside,
         room: u8,
         token: &Token,
-        test: Expr,
+        test: Boxed<Expr>,
         depth: Depth,
         then: Said,
         tokens: &mut Cursor<'_>,
@@ -353,7 +360,7 @@ impl<F: Fn(&mut Cursor<'_>, u8, Ask) -> Result<Answer, ParseError>> Rules<F> {
         let other = self.statement_below(inside, room - 1, then.state, tokens)?;
         Ok(stmt_node(
             tokens.alloc(),
-            Stmt::If(test, then.stmt, Some(other.stmt)),
+            Stmt::If(test.into_inner(), then.stmt, Some(other.stmt)),
             other.state,
             token.at,
             depth.both(other.depth),
@@ -406,6 +413,7 @@ impl<F: Fn(&mut Cursor<'_>, u8, Ask) -> Result<Answer, ParseError>> Rules<F> {
     }
 
     /// The condition of a `do`, behind its body.
+    #[tactic(auto, unfolding(crate::specs::Statements::repeated))]
     fn repeated(
         &self,
         room: u8,
@@ -427,7 +435,7 @@ impl<F: Fn(&mut Cursor<'_>, u8, Ask) -> Result<Answer, ParseError>> Rules<F> {
             vars,
         };
         tokens.ended(
-            Stmt::DoWhile(body.stmt, x.value),
+            Stmt::DoWhile(body.stmt, x.value.into_inner()),
             state,
             token.at,
             body.depth.both(x.depth),
@@ -458,7 +466,7 @@ impl<F: Fn(&mut Cursor<'_>, u8, Ask) -> Result<Answer, ParseError>> Rules<F> {
         let y = self.statement_below(inside.in_loop(), room - 1, state, tokens)?;
         Ok(stmt_node(
             tokens.alloc(),
-            Stmt::While(x.value, y.stmt),
+            Stmt::While(x.value.into_inner(), y.stmt),
             y.state,
             token.at,
             x.depth.both(y.depth),

@@ -189,15 +189,16 @@ fn block(out: &mut String, head: &str, items: &Items<Stmt>) -> Result<(), AllocE
 #[cycle(statement)]
 fn caught(out: &mut String, handler: &Option<Handler>) -> Result<(), AllocError> {
     match handler {
-        Some(handler) => catch(out, handler),
+        Some(handler) => {
+            catch_head(out, handler)?;
+            statements(out, &handler.body)?;
+            close(out)
+        }
         None => Ok(()),
     }
 }
 
-#[cycle(statement)]
-fn catch(out: &mut String, handler: &Handler) -> Result<(), AllocError> {
+fn catch_head(out: &mut String, handler: &Handler) -> Result<(), AllocError> {
     open(out, "catch")?;
-    name(out, &handler.name)?;
-    statements(out, &handler.body)?;
-    close(out)
+    name(out, &handler.name)
 }

@@ -14,11 +14,13 @@ use Rattle.js_parser.proofs.Turns.{case_turn}
 use Rattle.js_parser.proofs.rules.Rules.case_body.Goals as goal
 
 pub statements-smaller : goal.statements-smaller
+unfolding series_more
 statements-smaller g c =
     (case_turn (choosing c.args.inside) (c.args.room - 1) c.statements.series c.statements.tokens c.in_ok-series.series c.series_more.new.tokens (cc)
     (subst (λ (i : Inside). read None (series_more i (level (c.args.room - 1)) c.statements.series) c.statements.tokens ≡ Got c.in_ok-series.series c.series_more.new.tokens) c.in_switch.ensures c.in_ok-series.ensures.value)).1
 
 pub statements-preserved : goal.statements-preserved
+unfolding series_more
 statements-preserved g c = record {
   height = c.in_ok-series.ensures.height;
   reading = onward _ _ _ _ c.statements.invariant.reading
@@ -27,4 +29,5 @@ statements-preserved g c = record {
 }
 
 pub returns-clause-value : goal.returns-clause-value
+unfolding series_more
 returns-clause-value g c = loop_ended _ (λ _ t. in_case t) (series_more (choosing c.args.inside) (level (c.args.room - 1))) _ c.statements.series c.statements.tokens _ (case_turns (level (c.args.room - 1)) (level_known (c.args.room - 1)) (choosing c.args.inside) c.statements.series) c.statements.invariant.reading (cc) (ap (λ (v : Cases). Got v c.statements.tokens) (sym c.in_ok-more_cases.ensures.value))

@@ -9,6 +9,8 @@ use Rattle.grammar.proofs.Words.{onward}
 use Rattle.js_parser.specs.Sources.{level}
 use Rattle.js_parser.proofs.Turns.{list_turn}
 use Rattle.js_parser.proofs.rules.Rules.list_items.Goals as goal
+use Rattle.js_cursor.specs.Words as words
+use Rattle.js_parser.specs.Primary as primaries
 
 pub items-smaller : goal.items-smaller
 items-smaller g c = (list_turn (c.args.room - 1) c.items.row c.items.tokens c.in_ok-row-2.row c.list_more.new.tokens (cc) c.in_ok-row-2.ensures.value).1
@@ -20,4 +22,5 @@ items-preserved g c = record {
 }
 
 pub returns-in_err-row-2-clause-value : goal.returns-in_err-row-2-clause-value
+unfolding list_more primaries.item words.sign
 returns-in_err-row-2-clause-value g c = loop_failed _ (λ _ t. shows p.Comma t) (list_more (level (c.args.room - 1))) _ c.items.row c.items.tokens c.in_err-row-2.field-0.0 c.list_more.new.tokens c.from_residual-in_err-row-2.result (list_turns (level (c.args.room - 1)) (level_known (c.args.room - 1)) c.items.row) c.items.invariant.reading (cc) c.in_err-row-2.ensures.value c.from_residual-in_err-row-2.ensures
