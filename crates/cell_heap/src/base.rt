@@ -12,7 +12,9 @@ ghost use Rattle.cell_heap.specs.StartPuts.{page_puts, document_puts};
 ghost use Rattle.cell_places.specs.Sound.{IsSound};
 ghost use Rattle.cell_places.specs.View.{ground};
 
-use cell_places::{Answer, CellFault, CellKind, Cells, FaultName, Place, Slot};
+use cell_places::{
+    Answer, CellFault, CellKind, Cells, DOCUMENT, FaultName, NODE_PROTOTYPE, PAGE, Place, Slot,
+};
 use page_units::{CellName, NoMemory, Text, Value};
 use std::alloc::Global;
 use std::collections::BTreeMap;
@@ -53,18 +55,16 @@ impl Base {
         requires to { now ≤ℤ pos 9007199254740991 }
         ensures { OnOk result (heap_of self.new ≡ after (heap_of self.old) (page_puts now)) }
     {
-        let page = CellName(1);
-        self.put_value(page, Slot::Clock, Value::Num(now))?;
-        self.put_value(page, Slot::NextTimer, Value::Num(1))?;
-        self.put_value(page, Slot::NextGuess, Value::Num(1))
+        self.put_value(PAGE, Slot::Clock, Value::Num(now))?;
+        self.put_value(PAGE, Slot::NextTimer, Value::Num(1))?;
+        self.put_value(PAGE, Slot::NextGuess, Value::Num(1))
     }
 
     fn put_document(&mut self, alloc: Global) -> Result<(), NoMemory>
         requires { (heap_of self.old).kinds ≡ start_kinds }
         ensures { OnOk result (heap_of self.new ≡ after (heap_of self.old) document_puts) }
     {
-        let document = CellName(2);
-        self.put_value(document, Slot::Proto, Value::Cell(CellName(14)))?;
+        self.put_value(DOCUMENT, Slot::Proto, Value::Cell(NODE_PROTOTYPE))?;
         self.put_function(alloc, b"getElementById", 95)?;
         self.put_function(alloc, b"createElement", 96)?;
         self.put_function(alloc, b"createTextNode", 97)
@@ -75,9 +75,8 @@ impl Base {
         requires number { number < 128 }
         ensures { OnOk result (heap_of self.new ≡ moved (heap_of self.old) (placed (place document_cell (Own name.now)) (One (Cell (cell number))))) }
     {
-        let document = CellName(2);
-        let slot = Slot::Own(text_of_letters(alloc, name)?);
-        self.put_value(document, slot, Value::Cell(CellName(number)))
+        let slot = Slot::Own(Text::of_ascii(alloc, name)?);
+        self.put_value(DOCUMENT, slot, Value::Cell(CellName(number)))
     }
 
     fn put_value(&mut self, cell: CellName, slot: Slot, value: Value) -> Result<(), NoMemory>
@@ -159,17 +158,6 @@ fn push_natives(kinds: &mut Vec<CellKind>, count: u32) -> Result<(), NoMemory>
         kinds.push(CellKind::Native(which))?;
     }
     Ok(())
-}
-
-fn text_of_letters(alloc: Global, letters: &[u8]) -> Result<Text, NoMemory>
-    ensures { IfOk result (λ text. text ≡ letters.now) }
-{
-    Text::of_units(
-        letters
-            .iter()
-            .map(|letter| u16::from(*letter))
-            .collect(alloc)?,
-    )
 }
 
 impl Cells for Base {

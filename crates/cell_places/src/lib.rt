@@ -5,9 +5,11 @@
 pub mod answer;
 pub mod cells;
 pub mod kind;
+pub mod known;
 pub mod place;
 
 pub use answer::{Answer, CellNames, Guess, Guesses, Listener, Listeners, Texts, Timer, Timers};
 pub use cells::{CellFault, Cells};
 pub use kind::{CellKind, FaultName};
+pub use known::{DOCUMENT, NODE_PROTOTYPE, PAGE};
 pub use place::{Place, Slot};

@@ -13,15 +13,13 @@ ghost use Rattle.crom_host.specs.Plain.{Answered, PlainStep, Serves, ServesId};
 ghost use Rattle.crom_host.specs.Loading.{LoadSays, OnlyReady};
 
 use cell_heap::Base;
+use cell_places::DOCUMENT;
 use dom_tree::{dom_text, element_by_id};
 use page_reader::{PageFault, read_page};
 use page_units::{CellName, Limit, NoMemory, Text};
 use std::alloc::Global;
 use wire_asks::{Asked, Refusal};
 use wire_replies::{Reply, halted_reply, long_text_reply, refusal_reply, tree_reply};
-
-/// The cell of the document.
-const DOCUMENT: CellName = CellName(2);
 
 /// What loading a page gave.
 #[derive(Drop)]

@@ -38,11 +38,28 @@ pub fn append_start<C: Cells>(
     if !append(name, most, out)? {
         return Ok(false);
     }
-    let answer = answer_at(cells, node, Slot::AttrNames)?;
-    if !append_attributes(alloc, cells, node, names_of(&answer), most, out)? {
+    if !append_own(alloc, cells, node, most, out)? {
         return Ok(false);
     }
     append(b">", most, out)
+}
+
+/// Appends the attributes of an element in the same way.
+fn append_own<C: Cells>(
+    alloc: Global,
+    cells: &mut C,
+    node: CellName,
+    most: u64,
+    out: &mut Vec<u8>,
+) -> Result<bool, NoMemory>
+    requires element { CanAsk (heap (C.seen cells.old)) (place node Slot.AttrNames) }
+    requires fits { length out.old.items ≤ most }
+    ensures text { IfOk result (λ whole. Appended whole most out.old.items out.new.items
+        (flat_map attribute_text (attributes_at (heap (C.seen cells.old)) node))) }
+    ensures still { Still (C.seen cells.old) (C.seen cells.new) }
+{
+    let answer = answer_at(cells, node, Slot::AttrNames)?;
+    append_attributes(alloc, cells, node, names_of(&answer), most, out)
 }
 
 /// Appends the attributes of these names in the same way.

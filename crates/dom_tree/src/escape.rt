@@ -4,7 +4,7 @@ ghost use Rattle.std.specs.List.{flat_map};
 ghost use Rattle.page_units.specs.Coding.{utf8_of_units};
 ghost use Rattle.dom_tree.specs.TreeText.{escape_text, escape_value};
 
-use page_units::{NoMemory, Text, utf8_of};
+use page_units::{NoMemory, Text, push_ascii, utf8_of};
 use std::alloc::Global;
 
 /// A text as it is written, in UTF-8: raw, or with `&`, `<` and `>` escaped.
@@ -34,9 +34,9 @@ fn push_escaped(written: &mut Vec<u16>, unit: u16) -> Result<(), NoMemory>
     ensures { OnOk result (written.new.items ≡ written.old.items ++ escape_text unit) }
 {
     match unit {
-        0x26 => push_word(written, b"&amp;"),
-        0x3c => push_word(written, b"&lt;"),
-        0x3e => push_word(written, b"&gt;"),
+        0x26 => push_ascii(written, b"&amp;"),
+        0x3c => push_ascii(written, b"&lt;"),
+        0x3e => push_ascii(written, b"&gt;"),
         _ => Ok(written.push(unit)?),
     }
 }
@@ -65,17 +65,7 @@ fn push_value(written: &mut Vec<u16>, unit: u16) -> Result<(), NoMemory>
     ensures { OnOk result (written.new.items ≡ written.old.items ++ escape_value unit) }
 {
     match unit {
-        0x22 => push_word(written, b"&quot;"),
+        0x22 => push_ascii(written, b"&quot;"),
         _ => push_escaped(written, unit),
     }
-}
-
-/// Appends ASCII bytes, a unit each.
-fn push_word(written: &mut Vec<u16>, word: &[u8]) -> Result<(), NoMemory>
-    ensures { OnOk result (written.new.items ≡ written.old.items ++ word.now) }
-{
-    for byte in word {
-        written.push(u16::from(*byte))?;
-    }
-    Ok(())
 }

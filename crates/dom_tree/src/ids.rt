@@ -12,12 +12,9 @@ ghost use Rattle.dom_tree.specs.Ids as spec;
 ghost use Rattle.dom_tree.specs.Searched.{CanSearch, Searched};
 
 use crate::answers::{answer_at, cells_of};
-use cell_places::{Answer, CellKind, Cells, Slot};
+use cell_places::{Answer, CellKind, Cells, DOCUMENT, Slot};
 use page_units::{CellName, NoMemory, Text, Value};
 use std::alloc::Global;
-
-/// The cell of the document.
-const DOCUMENT: CellName = CellName(2);
 
 /// The first element in tree order with an id, and how many elements were asked for theirs.
 #[derive(Clone, Copy)]
@@ -64,8 +61,7 @@ pub fn element_by_id<C: Cells>(alloc: Global, cells: &mut C, id: &Text) -> Resul
 fn id_name(alloc: Global) -> Result<Text, NoMemory>
     ensures { IfOk result (λ name. name ≡ codes "id") }
 {
-    let units = [u16::from(b'i'), u16::from(b'd')];
-    Text::of_units(Vec::from_slice(alloc, &units)?)
+    Text::of_ascii(alloc, b"id")
 }
 
 /// Finds the first element with the id among these nodes and below them, and counts those that it

@@ -1,6 +1,5 @@
 //! Names of elements that have a rule of their own.
-ghost use Rattle.std.specs.Prelude.{◌≡◌, ◌||◌, length};
-ghost use Rattle.std.specs.Str.{bytes_eq};
+ghost use Rattle.std.specs.Prelude.{◌≡◌};
 ghost use Rattle.dom_tree.specs.Names as spec;
 
 use page_units::Text;
@@ -10,44 +9,24 @@ use page_units::Text;
 pub fn is_void(name: &Text) -> bool
     ensures { result ≡ spec.is_void name.now }
 {
-    is_word(name, b"area")
-        || is_word(name, b"base")
-        || is_word(name, b"br")
-        || is_word(name, b"col")
-        || is_word(name, b"embed")
-        || is_word(name, b"hr")
-        || is_word(name, b"img")
-        || is_word(name, b"input")
-        || is_word(name, b"link")
-        || is_word(name, b"meta")
-        || is_word(name, b"source")
-        || is_word(name, b"track")
-        || is_word(name, b"wbr")
+    name.is_word(b"area")
+        || name.is_word(b"base")
+        || name.is_word(b"br")
+        || name.is_word(b"col")
+        || name.is_word(b"embed")
+        || name.is_word(b"hr")
+        || name.is_word(b"img")
+        || name.is_word(b"input")
+        || name.is_word(b"link")
+        || name.is_word(b"meta")
+        || name.is_word(b"source")
+        || name.is_word(b"track")
+        || name.is_word(b"wbr")
 }
 
 /// Whether the content of an element of this name is raw: `script` or `style`.
 pub fn is_raw(name: &Text) -> bool
     ensures { result ≡ spec.is_raw name.now }
 {
-    is_word(name, b"script") || is_word(name, b"style")
-}
-
-/// Whether the name's units are these ASCII bytes.
-fn is_word(name: &Text, word: &[u8]) -> bool
-    ensures { result ≡ bytes_eq name.now word.now }
-{
-    name.len() == word.len() && are_bytes(name.units(), word)
-}
-
-/// Whether the units are these ASCII bytes, of which there are as many.
-fn are_bytes(units: &[u16], word: &[u8]) -> bool
-    requires { length units.now ≡ length word.now }
-    ensures { result ≡ bytes_eq units.now word.now }
-{
-    for i in 0..word.len() {
-        if units[i] != u16::from(word[i]) {
-            return false;
-        }
-    }
-    true
+    name.is_word(b"script") || name.is_word(b"style")
 }

@@ -12,12 +12,12 @@ use Rattle.js_lexer.specs.Punctuators as puncts
 use Rattle.js_lexer.specs.Punctuators.{punct_of, longer}
 
 -- What is found in a table is spelled so.
-found : {X : Type 0} (spell : X → List ℕ) (units : List ℕ) (xs : List X) (x : X) → find (λ y. bytes_eq (spell y) units) xs ≡ Some x → spell x ≡ units
+found : {X : Type 0} (spell : X → List ℕ) (units : List ℕ) (xs : List X) (x : X) → find (λ y. bytes_eq units (spell y)) xs ≡ Some x → spell x ≡ units
 found spell units [] x e = cc
-found {X} spell units (y ∷ ys) x e = go (bytes_eq (spell y) units) refl (λ k. found spell units ys x k) e
+found {X} spell units (y ∷ ys) x e = go (bytes_eq units (spell y)) refl (λ k. found spell units ys x k) e
   where
-    go : (b : Bool) → bytes_eq (spell y) units ≡ b → (find (λ z. bytes_eq (spell z) units) ys ≡ Some x → spell x ≡ units) → cond b (Some y) (find (λ z. bytes_eq (spell z) units) ys) ≡ Some x → spell x ≡ units
-    go true h k e = let same : y ≡ x = cc in ap (λ (z : X). spell z) (sym same) ∙ (bytes_eq-Decides (spell y) units).0 h
+    go : (b : Bool) → bytes_eq units (spell y) ≡ b → (find (λ z. bytes_eq units (spell z)) ys ≡ Some x → spell x ≡ units) → cond b (Some y) (find (λ z. bytes_eq units (spell z)) ys) ≡ Some x → spell x ≡ units
+    go true h k e = let same : y ≡ x = cc in ap (λ (z : X). spell z) (sym same) ∙ sym ((bytes_eq-Decides units (spell y)).0 h)
     go false h k e = k e
 
 -- ---- reserved words

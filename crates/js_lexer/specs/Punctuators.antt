@@ -74,7 +74,7 @@ punctuators =
 
 -- the punctuator that is spelled so
 unfoldable pub punct_of : List ℕ → Option Punct
-punct_of units = find (λ p. bytes_eq (spelling p) units) punctuators
+punct_of units = find (λ p. bytes_eq units (spelling p)) punctuators
 
 -- what this character behind a punctuator makes of it
 abbrev pub longer : Punct → ℕ → Option Punct

@@ -61,4 +61,4 @@ words =
 
 -- the reserved word that is spelled so
 unfoldable pub word_of : List ℕ → Option Word
-word_of units = find (λ w. bytes_eq (spelling w) units) words
+word_of units = find (λ w. bytes_eq units (spelling w)) words

@@ -9,19 +9,10 @@ ghost use Rattle.js_lexer.specs.Chars.{of, is};
 
 use crate::classes::is_digit;
 use crate::token::Kind;
-use page_units::NoMemory;
+use page_units::{NoMemory, push_char};
 use placed_chars::Characters;
 use std::alloc::Global;
 use std::marker::Model;
-
-/// Puts a character's units.
-pub(crate) fn push_char(units: &mut Vec<u16>, c: char) -> Result<(), NoMemory>
-    ensures { OnOk result (units.new.items ≡ units.old.items ++ encode_utf16 c) }
-{
-    let mut pair = [0; 2];
-    units.extend_from_slice(c.encode_utf16(&mut pair))?;
-    Ok(())
-}
 
 /// A token, without what stands before it.
 #[derive(Drop)]

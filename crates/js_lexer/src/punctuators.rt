@@ -119,18 +119,18 @@ impl Punct {
 
 /// Whether the text is this front with one character more.
 fn is_one_more(text: &[u8], front: &[u8], c: char) -> bool
-    ensures { result ≡ bytes_eq text.now (front.now ++ c ∷ []) }
+    ensures { result ≡ bytes_eq (front.now ++ c ∷ []) text.now }
 {
     match (text, front) {
-        ([last], []) => char::from(*last) == c,
-        ([b, text @ ..], [d, front @ ..]) => b == d && is_one_more(text, front, c),
+        ([last], []) => c == char::from(*last),
+        ([b, text @ ..], [d, front @ ..]) => d == b && is_one_more(text, front, c),
         _ => false,
     }
 }
 
 /// The first of these punctuators that is spelled as this front with one character more.
 fn one_more(puncts: &[Punct], front: &[u8], c: char) -> Option<Punct>
-    ensures { result ≡ find (λ p. bytes_eq (marks.spelling p) (front.now ++ c ∷ [])) puncts.now }
+    ensures { result ≡ find (λ p. bytes_eq (front.now ++ c ∷ []) (marks.spelling p)) puncts.now }
 {
     puncts
         .iter()

@@ -10,9 +10,9 @@ ghost use Rattle.js_lexer.specs.Reads.{Reads, ReadsAs};
 
 use crate::classes::is_terminator;
 use crate::fault::LexFault;
-use crate::lexer::{Lexeme, Lexer, push_char};
+use crate::lexer::{Lexeme, Lexer};
 use crate::token::Kind;
-use page_units::{NoMemory, Text};
+use page_units::{NoMemory, Text, push_char};
 
 fn push_unit(units: &mut Vec<u16>, unit: u16) -> Result<(), NoMemory>
     ensures { OnOk result (units.new.items ≡ units.old.items ++ unit ∷ []) }

@@ -1,9 +1,9 @@
 //! Reserved words.
-ghost use Rattle.std.specs.Prelude.{◌≡◌, ◌++◌, bytes_eq, find, IfOk, OnOk};
+ghost use Rattle.std.specs.Prelude.{◌≡◌, bytes_eq, find, IfOk};
 ghost use Rattle.js_lexer.specs.Words as spellings;
 
 use crate::token::Word;
-use page_units::{NoMemory, Text};
+use page_units::{NoMemory, Text, is_word};
 use std::alloc::Global;
 
 const WORDS: [Word; 45] = [
@@ -112,42 +112,18 @@ impl Word {
     pub fn text(self, alloc: Global) -> Result<Text, NoMemory>
         ensures { IfOk result (λ t. t ≡ spellings.spelling self) }
     {
-        let spelling = self.spelling().as_bytes();
-        let mut units = Vec::with_capacity(alloc, spelling.len())?;
-        push_ascii(&mut units, spelling)?;
-        Text::of_units(units)
-    }
-}
-
-/// Puts ASCII characters.
-fn push_ascii(units: &mut Vec<u16>, characters: &[u8]) -> Result<(), NoMemory>
-    ensures { OnOk result (units.new.items ≡ units.old.items ++ characters.now) }
-{
-    for character in characters {
-        units.push(u16::from(*character))?;
-    }
-    Ok(())
-}
-
-/// Whether these units are the ASCII text of these bytes.
-pub(crate) fn is_spelled(text: &[u8], units: &[u16]) -> bool
-    ensures { result ≡ bytes_eq text.now units.now }
-{
-    match (text, units) {
-        ([], []) => true,
-        ([b, text @ ..], [u, units @ ..]) => u16::from(*b) == *u && is_spelled(text, units),
-        _ => false,
+        Text::of_ascii(alloc, self.spelling().as_bytes())
     }
 }
 
 /// The first of these words that the units spell.
 fn spelled(words: &[Word], units: &[u16]) -> Option<Word>
-    ensures { result ≡ find (λ w. bytes_eq (spellings.spelling w) units.now) words.now }
+    ensures { result ≡ find (λ w. bytes_eq units.now (spellings.spelling w)) words.now }
 {
     words
         .iter()
         .copied()
-        .find(|word| is_spelled(word.spelling().as_bytes(), units))
+        .find(|word| is_word(units, word.spelling().as_bytes()))
 }
 
 /// The reserved word that these units spell.

@@ -4,7 +4,7 @@ use Rattle.js_lexer.specs.declared.token.Kind.{Kind}
 use Rattle.js_lexer.specs.declared.token.Punct.{Punct}
 use Rattle.js_lexer.specs.declared.token.Word.{Word}
 use Rattle.js_lexer.specs.declared.token.Token.{Token}
-use Rattle.js_ops.specs.Conversions.{digits}
+use Rattle.page_units.specs.Digits.{digits}
 use Rattle.js_lexer.specs.declared.token.Kind.TheVariants as k
 use Rattle.js_lexer.specs.declared.token.Punct.TheVariants as p
 use Rattle.js_lexer.specs.declared.token.Word.TheVariants as w

@@ -5,26 +5,14 @@ ghost use Rattle.js_nodes.specs.Classes as classes;
 
 use crate::context::Inside;
 use js_lexer::{Kind, Punct, Token, Word};
-use js_ops::text_of;
-use page_units::{NoMemory, Text, Value};
+use page_units::{NoMemory, Text};
 use std::alloc::Global;
 
 /// Whether a name is left out of the language.
 pub fn is_left_out(name: &Text) -> bool
     ensures { result ≡ ahead.is_left_out name.now }
 {
-    is_spelled(name.units(), b"eval") || is_spelled(name.units(), b"arguments")
-}
-
-/// Whether the units are the ASCII text of these bytes.
-fn is_spelled(units: &[u16], text: &[u8]) -> bool
-    ensures { result ≡ bytes_eq units.now text.now }
-{
-    match (units, text) {
-        ([], []) => true,
-        ([u, units @ ..], [b, text @ ..]) => *u == u16::from(*b) && is_spelled(units, text),
-        _ => false,
-    }
+    name.is_word(b"eval") || name.is_word(b"arguments")
 }
 
 /// Whether it is a name that is left out of the language.
@@ -72,7 +60,7 @@ pub fn is_accessor(kind: &Kind) -> bool
     ensures { result ≡ ahead.is_accessor kind.now }
 {
     match kind {
-        Kind::Name(name) => is_spelled(name.units(), b"get") || is_spelled(name.units(), b"set"),
+        Kind::Name(name) => name.is_word(b"get") || name.is_word(b"set"),
         _ => false,
     }
 }
@@ -85,7 +73,7 @@ pub fn key_text(alloc: Global, kind: &Kind) -> Result<Option<Text>, NoMemory>
         Kind::Name(name) => Ok(Some(name.clone()?)),
         Kind::Word(word) => Ok(Some(word.text(alloc)?)),
         Kind::Str(text) => Ok(Some(text.clone()?)),
-        Kind::Num(number) => Ok(Some(text_of(alloc, &Value::Num(*number))?)),
+        Kind::Num(number) => Ok(Some(Text::of_number(alloc, *number)?)),
         Kind::Punct(_) => Ok(None),
     }
 }

@@ -1,5 +1,5 @@
 -- What the operators' calls answer.
-use Rattle.std.specs.Prelude.{◌≡◌, ◌≤◌, ◌<◌, ◌+◌, Bool, true, false, ◌&&◌, ◌||◌, Result, Ok, Err, ⊤}
+use Rattle.std.specs.Prelude.{◌≡◌, ◌⊎◌, ◌≤◌, ◌<◌, ◌+◌, Bool, true, false, ◌&&◌, ◌||◌, Result, Ok, Err, ⊤}
 use Rattle.page_units.specs.Metered.{Metered, ticked}
 use Rattle.page_units.specs.declared.operator.BinOp.{BinOp}
 use Rattle.page_units.specs.declared.operator.BinOp.TheVariants as o
@@ -36,13 +36,16 @@ suits_unary u.Void a = true
 suits_unary _ a = is_primitive a
 
 -- What is answered, and the meter then: the value where its steps stay within the bound, and else Steps; a refusal
--- leaves the meter as it was. Want of memory is free.
+-- leaves the meter as it was. Out of memory may come for any operands; the meter is then as it was, or has counted just
+-- the steps of the value.
 abbrev pub Answers : Given → Result Value OpFault → (old new : Metered) → Type 0
 Answers (value steps x) (Ok y) old new = (y ≡ x) × (old.used + steps ≤ old.bound) × (new ≡ ticked steps old)
 Answers (value steps x) (Err f.Steps) old new = (old.bound < old.used + steps) × (new ≡ old)
 Answers not_whole (Err f.NotWhole) old new = new ≡ old
 Answers too_long (Err f.TooLong) old new = new ≡ old
-Answers _ (Err f.NoMemory) old new = ⊤
+Answers (value steps x) (Err f.NoMemory) old new = (new ≡ old) ⊎ ((old.used + steps ≤ old.bound) × (new ≡ ticked steps old))
+Answers not_whole (Err f.NoMemory) old new = new ≡ old
+Answers too_long (Err f.NoMemory) old new = new ≡ old
 Answers _ _ old new = ⊥
 
 -- the same where no steps are counted

@@ -1,5 +1,6 @@
 -- Conversions of values (ECMA-262 5.1, 9.2, 9.3 and 9.8), with whole numbers alone (this project's own).
-use Rattle.std.specs.Prelude.{ℕ, suc, Bool, true, false, not, cond, ◌==◌, List, [], ◌++◌, length, ℤ, pos, negsuc, codes, decimal}
+use Rattle.std.specs.Prelude.{ℕ, Bool, true, false, not, cond, ◌==◌, List, [], length, ℤ, pos, negsuc, codes}
+use Rattle.page_units.specs.Digits.{digits}
 use Rattle.page_units.specs.declared.value.Value.{Value}
 use Rattle.page_units.specs.declared.value.Value.TheVariants as v
 use Rattle.js_ops.specs.declared.numbers.NumberOf.{NumberOf}
@@ -29,11 +30,6 @@ number (v.Bool b) = Num (cond b (pos 1) (pos 0))
 number (v.Num z) = Num z
 number (v.Str units) = number_of_text units
 number (v.Cell n) = NoNumber
-
--- the digits of a number, with its sign (9.8.1)
-abbrev pub digits : ℤ → List ℕ
-digits (pos n) = decimal n
-digits (negsuc n) = codes "-" ++ decimal (suc n)
 
 -- the text of a primitive value (9.8); an object has none
 abbrev pub text : Value → List ℕ

@@ -1,10 +1,10 @@
 //! Conversions of values (ECMA-262 5.1, 9.2, 9.3 and 9.8).
-ghost use Rattle.std.specs.Prelude.{◌≡◌, ◌≤◌, ◌^◌, ◌++◌, IsTrue, IfOk, OnOk, length, ℕ, decimal};
+ghost use Rattle.std.specs.Prelude.{◌≡◌, ◌++◌, IsTrue, IfOk, OnOk, length};
 ghost use Rattle.js_ops.specs.Conversions as spec;
 
 use crate::numbers::NumberOf;
 use crate::text_numbers::number_of_text;
-use page_units::{NoMemory, Text, Value};
+use page_units::{NoMemory, Text, Value, number_len, push_ascii, push_number};
 use std::alloc::Global;
 
 /// The truth value of a value (9.2): false for undefined, null, 0 and the empty text.
@@ -56,7 +56,7 @@ pub(crate) fn text_len(a: &Value) -> usize
         Value::Undefined => 9,
         Value::Null | Value::Bool(true) => 4,
         Value::Bool(false) => 5,
-        Value::Num(number) => usize::from(*number < 0) + decimal_len(number.unsigned_abs()),
+        Value::Num(number) => number_len(*number),
         Value::Str(text) => text.len(),
         Value::Cell(_) => 0,
     }
@@ -71,52 +71,10 @@ pub(crate) fn push_text(units: &mut Vec<u16>, a: &Value) -> Result<(), NoMemory>
         Value::Null => push_ascii(units, b"null"),
         Value::Bool(true) => push_ascii(units, b"true"),
         Value::Bool(false) => push_ascii(units, b"false"),
-        Value::Num(number) => push_digits(units, *number),
+        Value::Num(number) => push_number(units, *number),
         Value::Str(text) => units.extend_from_slice(text.units()),
         Value::Cell(_) => Ok(()),
     }
-}
-
-fn push_digits(units: &mut Vec<u16>, number: i64) -> Result<(), NoMemory>
-    ensures { OnOk result (units.new.items ≡ units.old.items ++ spec.digits number) }
-{
-    if number < 0 {
-        push_ascii(units, b"-")?;
-    }
-    push_decimal(units, number.unsigned_abs())
-}
-
-/// Appends the decimal digits of a number.
-fn push_decimal(units: &mut Vec<u16>, number: u64) -> Result<(), NoMemory>
-    ensures { OnOk result (units.new.items ≡ units.old.items ++ decimal number) }
-{
-    if number >= 10 {
-        push_decimal(units, number / 10)?;
-    }
-    units.push(u16::from(b'0') + (number % 10) as u16)?;
-    Ok(())
-}
-
-/// How many decimal digits a number has.
-fn decimal_len(number: u64) -> usize
-    ensures count { result ≡ length (decimal number) }
-    ensures bound { result ≤ 20 }
-{
-    if number < 10 {
-        1
-    } else {
-        1 + decimal_len(number / 10)
-    }
-}
-
-/// Appends ASCII characters.
-fn push_ascii(units: &mut Vec<u16>, characters: &[u8]) -> Result<(), NoMemory>
-    ensures { OnOk result (units.new.items ≡ units.old.items ++ characters.now) }
-{
-    for character in characters {
-        units.push(u16::from(*character))?;
-    }
-    Ok(())
 }
 
 /// What `typeof` gives of a primitive value (11.4.3).
@@ -124,20 +82,11 @@ pub(crate) fn type_name(alloc: Global, a: &Value) -> Result<Text, NoMemory>
     ensures { IfOk result (λ t. t ≡ spec.type_name a.now) }
 {
     match a {
-        Value::Undefined => ascii_text(alloc, b"undefined"),
-        Value::Null => ascii_text(alloc, b"object"),
-        Value::Bool(_) => ascii_text(alloc, b"boolean"),
-        Value::Num(_) => ascii_text(alloc, b"number"),
-        Value::Str(_) => ascii_text(alloc, b"string"),
-        Value::Cell(_) => ascii_text(alloc, b""),
+        Value::Undefined => Text::of_ascii(alloc, b"undefined"),
+        Value::Null => Text::of_ascii(alloc, b"object"),
+        Value::Bool(_) => Text::of_ascii(alloc, b"boolean"),
+        Value::Num(_) => Text::of_ascii(alloc, b"number"),
+        Value::Str(_) => Text::of_ascii(alloc, b"string"),
+        Value::Cell(_) => Text::of_ascii(alloc, b""),
     }
-}
-
-/// The text of ASCII characters.
-fn ascii_text(alloc: Global, characters: &[u8]) -> Result<Text, NoMemory>
-    ensures { IfOk result (λ t. t ≡ characters.now) }
-{
-    let mut units = Vec::with_capacity(alloc, characters.len())?;
-    push_ascii(&mut units, characters)?;
-    Text::of_units(units)
 }

@@ -22,7 +22,7 @@ use std::alloc::Global;
 /// `NotWhole` where an operand or the result of an operator on numbers is no whole number in range,
 /// `TooLong` where a joined text would have more than 65,535 units, and `Steps` where the steps of
 /// joining or comparing texts pass the meter's bound: the meter is then as it was. `NoMemory` where
-/// memory was refused; the steps may be counted then.
+/// memory was refused: the meter is then as it was, or has counted just the steps of the result.
 pub fn binary(
     alloc: Global,
     op: BinOp,

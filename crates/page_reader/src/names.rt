@@ -31,12 +31,12 @@ impl<'a> Reader<'a> {
 pub(crate) fn is_script(name: &Text) -> bool
     ensures { result ≡ form.is_script name.now }
 {
-    name.units() == [115, 99, 114, 105, 112, 116].as_slice()
+    name.is_word(b"script")
 }
 
 /// Whether it is the attribute that no script may have.
 pub(crate) fn is_src(name: &Text) -> bool
     ensures { result ≡ form.is_src name.now }
 {
-    name.units() == [115, 114, 99].as_slice()
+    name.is_word(b"src")
 }

@@ -14,16 +14,10 @@ ghost use Rattle.page_reader.specs.NodeTrees.{pairs, trees_of};
 ghost use Rattle.page_reader.specs.Planting.{planting, node_count, root_names, node_acts, name_acts, attribute_acts, children_acts, trees_acts};
 
 use crate::node::{Attribute, Node};
-use cell_places::{Answer, CellKind, Cells, Place, Slot};
+use cell_places::{Answer, CellKind, Cells, DOCUMENT, NODE_PROTOTYPE, Place, Slot};
 use page_units::{CellName, NoMemory, Shared, Text, Value};
 use sqlite_items::Items;
 use std::alloc::Global;
-
-/// The cell of the document.
-const DOCUMENT: CellName = CellName(2);
-
-/// The cell of the nodes' prototype.
-const NODE_PROTOTYPE: CellName = CellName(14);
 
 /// Puts a page's root with all that is in it under the document. After want of memory the heap is
 /// to be given up.

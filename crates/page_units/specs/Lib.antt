@@ -1,5 +1,6 @@
 pub mod Blanks
 pub mod Coding
+pub mod Digits
 pub mod Limits
 pub mod LimitsOf
 pub mod Memory

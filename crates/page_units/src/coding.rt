@@ -1,10 +1,10 @@
 //! Texts from UTF-8 (RFC 3629) and back.
-ghost use Rattle.std.specs.Prelude.{◌≡◌, ◌++◌, IfOk, IfSome, OnOk, MatchOption};
-ghost use Rattle.std.specs.Char.Escape.{encode_utf16};
+ghost use Rattle.std.specs.Prelude.{◌≡◌, IfOk, IfSome, MatchOption};
 ghost use Rattle.std.specs.Str.{IsUtf8};
 ghost use Rattle.page_units.specs.Coding.{units_of_utf8, utf8_of_units, IsPaired};
 
 use crate::fault::NoMemory;
+use crate::spelling::push_char;
 use crate::text::Text;
 use std::alloc::Global;
 
@@ -32,7 +32,8 @@ pub fn utf8_of(alloc: Global, text: &Text) -> Result<Vec<u8>, NoMemory>
     Ok(String::from_utf16_lossy(alloc, text.units())?.into_bytes())
 }
 
-fn units_of_str(alloc: Global, text: &str) -> Result<Vec<u16>, NoMemory>
+/// The units of a `str`.
+pub(crate) fn units_of_str(alloc: Global, text: &str) -> Result<Vec<u16>, NoMemory>
     ensures { IfOk result (λ v. v.items ≡ units_of_utf8 text.now) }
 {
     let mut units = Vec::with_capacity(alloc, text.len())?;
@@ -40,12 +41,4 @@ fn units_of_str(alloc: Global, text: &str) -> Result<Vec<u16>, NoMemory>
         push_char(&mut units, c)?;
     }
     Ok(units)
-}
-
-fn push_char(units: &mut Vec<u16>, c: char) -> Result<(), NoMemory>
-    ensures { OnOk result (units.new.items ≡ units.old.items ++ encode_utf16 c) }
-{
-    let mut pair = [0; 2];
-    units.extend_from_slice(c.encode_utf16(&mut pair))?;
-    Ok(())
 }

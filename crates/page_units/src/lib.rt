@@ -4,6 +4,7 @@
 
 pub mod blanks;
 pub mod coding;
+pub mod digits;
 pub mod event;
 pub mod fault;
 pub mod limits;
@@ -13,12 +14,14 @@ pub mod shared;
 pub mod shelf;
 pub mod sink;
 pub mod source;
+pub mod spelling;
 pub mod standard;
 pub mod text;
 pub mod value;
 
 pub use blanks::{is_line_terminator, is_white_space};
 pub use coding::{text_of_utf8, utf8_of};
+pub use digits::{number_len, push_number};
 pub use event::{PageEvent, Response};
 pub use fault::{NoMemory, RunFault, Stopped};
 pub use limits::{Limit, Limits};
@@ -28,6 +31,7 @@ pub use shared::Shared;
 pub use shelf::{FETCHED_BYTES, Fetched, MemoryShelf, Shelf};
 pub use sink::{Gave, MemorySink, Sink, SureSink, Wrote, write_all};
 pub use source::{MemorySource, Source, SureSource, Took};
+pub use spelling::{is_word, push_ascii, push_char};
 pub use standard::{FileShelf, StdSink, StdSource};
 pub use text::Text;
 pub use value::{CellName, End, Value};

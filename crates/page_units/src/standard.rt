@@ -1,5 +1,5 @@
 //! The outside as the runtime gives it. What a stream or a file contains is not told.
-ghost use Rattle.std.specs.Prelude.{◌≡◌, ℕ, ◌<◌, ◌≤◌, List, [], length, take, None, IfOk, ⊤};
+ghost use Rattle.std.specs.Prelude.{◌≡◌, ℕ, ◌<◌, ◌≤◌, List, [], length, take, None, IfOk, IsOk, ⊤};
 ghost use Rattle.std.specs.Io.KnownBytes.{Keeps, Appends, Consumes, IsAtEnd};
 ghost use Rattle.page_units.specs.Memory.{next_count};
 ghost use Rattle.page_units.specs.Outside.{before, after, Rose, IfGot, OnEnd, OnFailed, OnNotFailed, IfTook, OnNotTook, OnWriteFailed, OnWriteNotFailed};
@@ -99,13 +99,14 @@ impl<W: Write> Sink for StdSink<W> {
 
     /// Writes once, and flushes what it wrote. Each error of the writer is a fault, an interrupted
     /// write too, and so is a write that takes nothing. Where the flush fails, the writer may still
-    /// hold what it took.
+    /// hold what it took. It is never out of memory.
     fn write(&mut self, piece: &[u8]) -> Result<Gave, NoMemory>
         requires { 0 < length piece.now }
         ensures some { IfTook result (λ count. 0 < count) }
         ensures fits { IfTook result (λ count. count ≤ length piece.now) }
         ensures rose { OnWriteFailed result (Rose self.old.fault_count self.new.fault_count) }
         ensures count { OnWriteNotFailed result (self.new.fault_count ≡ self.old.fault_count) }
+        ensures no_memory_asked { IsOk result }
 
         // What the writer is known to hold, after a fault too.
         ensures went { let grew = Appends (W.contents self.old.writer) (W.contents self.new.writer) in

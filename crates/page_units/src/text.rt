@@ -1,11 +1,16 @@
 //! Texts of 16-bit units (ECMA-262 5.1, 8.4).
-ghost use Rattle.std.specs.Prelude.{◌≡◌, ℕ, ◌<◌, List, length, IfOk, slice_get, Some, refl, nat_eq};
+ghost use Rattle.std.specs.Prelude.{◌≡◌, ℕ, ◌<◌, List, length, IfOk, slice_get, Some, refl, nat_eq, bytes_eq};
 ghost use Rattle.std.specs.Cmp.Lexicographic.{pointwise, slice_cmp, nat_list_eq_equiv, nat_list_cmp_total, texts_ties, texts_po};
 ghost use Rattle.std.specs.Cmp.{partial_equiv_from_equiv};
 ghost use Rattle.std.specs.Ordering.{nat_cmp};
-ghost use Rattle.page_units.specs.Coding.{IsUnits};
+ghost use Rattle.page_units.specs.Coding.{IsUnits, units_of_utf8};
+ghost use Rattle.page_units.specs.Digits.{digits};
 
+use crate::coding::units_of_str;
+use crate::digits::{number_len, push_number};
 use crate::fault::NoMemory;
+use crate::spelling::{is_word, push_ascii};
+use std::alloc::Global;
 use std::cmp::Ordering;
 use std::marker::Model;
 use std::rc::RcSlice;
@@ -41,6 +46,31 @@ impl Text {
         })
     }
 
+    /// The text of ASCII characters, a unit each.
+    pub fn of_ascii(alloc: Global, characters: &[u8]) -> Result<Text, NoMemory>
+        ensures { IfOk result (λ t. t ≡ characters.now) }
+    {
+        let mut units = Vec::with_capacity(alloc, characters.len())?;
+        push_ascii(&mut units, characters)?;
+        Text::of_units(units)
+    }
+
+    /// The text of a `str`.
+    pub fn of_str(alloc: Global, characters: &str) -> Result<Text, NoMemory>
+        ensures { IfOk result (λ t. t ≡ units_of_utf8 characters.now) }
+    {
+        Text::of_units(units_of_str(alloc, characters)?)
+    }
+
+    /// The digits of a number, behind `-` where it is less than 0.
+    pub fn of_number(alloc: Global, number: i64) -> Result<Text, NoMemory>
+        ensures { IfOk result (λ t. t ≡ digits number) }
+    {
+        let mut units = Vec::with_capacity(alloc, number_len(number))?;
+        push_number(&mut units, number)?;
+        Text::of_units(units)
+    }
+
     /// How many units the text has.
     pub fn len(&self) -> usize
         ensures { result ≡ length self.now }
@@ -53,6 +83,13 @@ impl Text {
         ensures { result ≡ nat_eq (length self.now) 0 }
     {
         self.units.len() == 0
+    }
+
+    /// Whether the text is this ASCII word.
+    pub fn is_word(&self, word: &[u8]) -> bool
+        ensures { result ≡ bytes_eq self.now word.now }
+    {
+        is_word(self.units(), word)
     }
 
     /// The units, in order.

@@ -8,6 +8,7 @@ mod places;
 mod shelves;
 mod sinks;
 mod sources;
+mod spelling;
 mod texts;
 mod told;
 
@@ -32,8 +33,26 @@ impl Answers for Units {
             "texts of bytes" => coding::text_of_bytes(alloc, fields),
             "bytes of texts" => coding::bytes_of_text(alloc, fields),
             "characters and their places" => places::character(alloc, fields),
-            _ => outside(self.rt, alloc, group, fields),
+            _ => spelled(self.rt, alloc, group, fields),
         }
+    }
+}
+
+/// The answers of the groups of spelled texts.
+fn spelled(
+    rt: HostRuntime,
+    alloc: Global,
+    group: &str,
+    fields: &[String],
+) -> Result<String, AllocError> {
+    match group {
+        "texts that are ASCII words" => spelling::word(alloc, fields),
+        "texts of ASCII characters" => spelling::ascii(alloc, fields),
+        "texts of characters" => spelling::characters(alloc, fields),
+        "characters behind one another" => spelling::appended(alloc, fields),
+        "digits of numbers" => spelling::digits(alloc, fields),
+        "numbers behind one another" => spelling::two_numbers(alloc, fields),
+        _ => outside(rt, alloc, group, fields),
     }
 }
 

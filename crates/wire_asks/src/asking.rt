@@ -5,9 +5,9 @@ ghost use Rattle.wire_asks.specs.Asking.{asked_at as asked_at_route};
 ghost use Rattle.wire_asks.specs.Routes.{route_of};
 
 use crate::asked::{Asked, Refusal};
-use crate::bodies::{event_of, text_of, tick_of};
+use crate::bodies::{event_of, tick_of};
 use crate::route::Route;
-use page_units::NoMemory;
+use page_units::{NoMemory, Text};
 use std::alloc::Global;
 
 /// What stands before the id of a node.
@@ -28,7 +28,7 @@ pub fn asked_at(
         Route::Dom => Ok(Ok(Asked::Dom)),
         Route::Load => Ok(Ok(Asked::Load)),
         Route::Node => match path.strip_prefix(NODE_FRONT) {
-            Some(id) => Ok(Ok(Asked::Node(text_of(alloc, id)?))),
+            Some(id) => Ok(Ok(Asked::Node(Text::of_str(alloc, id)?))),
             None => unreachable!(),
         },
         Route::Stats => Ok(Ok(Asked::Stats)),

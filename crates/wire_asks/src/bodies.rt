@@ -16,7 +16,7 @@ ghost use Rattle.wire_asks.specs.Bodies.{
   event_of as event_in_body,
 };
 
-use page_units::{NoMemory, PageEvent, Text, text_of_utf8};
+use page_units::{NoMemory, PageEvent, Text};
 use serde_json::error::Category;
 use serde_json::{Map, Value};
 use std::alloc::{AllocError, Global};
@@ -91,7 +91,7 @@ fn text_in(alloc: Global, value: Option<&Value>) -> Result<Option<Text>, NoMemor
     ensures { IfOk result (λ text. text ≡ option_and_then units_in (option_map (λ v. view v.now) value.entry)) }
 {
     match value {
-        Some(Value::String(text)) => Ok(Some(text_of(alloc, text.as_str())?)),
+        Some(Value::String(text)) => Ok(Some(Text::of_str(alloc, text.as_str())?)),
         _ => Ok(None),
     }
 }
@@ -102,18 +102,8 @@ fn optional_text_in(alloc: Global, value: Option<&Value>) -> Result<Option<Optio
 {
     match value {
         None | Some(Value::Null) => Ok(Some(None)),
-        Some(Value::String(text)) => Ok(Some(Some(text_of(alloc, text.as_str())?))),
+        Some(Value::String(text)) => Ok(Some(Some(Text::of_str(alloc, text.as_str())?))),
         Some(_) => Ok(None),
-    }
-}
-
-/// The units of a `str`.
-pub fn text_of(alloc: Global, text: &str) -> Result<Text, NoMemory>
-    ensures { IfOk result (λ units. units ≡ units_of_utf8 text.now) }
-{
-    match text_of_utf8(alloc, text.as_bytes())? {
-        Some(units) => Ok(units),
-        None => unreachable!(),
     }
 }
 

@@ -1,4 +1,4 @@
-use Rattle.cell_places.proofs.Runs.{Still-refl, Still-trans}
+use Rattle.cell_places.proofs.Runs.{Still-refl}
 use Rattle.dom_tree.proofs.attributes.append_start.Goals as goal
 
 pub returns-in_err-append-clause-still : goal.returns-in_err-append-clause-still
@@ -12,13 +12,3 @@ returns-in_err-append-2-clause-still g c = Still-refl _
 
 pub returns-then-not-branch-2-clause-still : goal.returns-then-not-branch-2-clause-still
 returns-then-not-branch-2-clause-still g c = Still-refl _
-
-pub returns-in_err-append_attributes-clause-still :
-    goal.returns-in_err-append_attributes-clause-still
-returns-in_err-append_attributes-clause-still g c = Still-trans _ _ _ c.answer_at.ensures.still c.append_attributes.ensures.still
-
-pub returns-then-not-branch-3-clause-still : goal.returns-then-not-branch-3-clause-still
-returns-then-not-branch-3-clause-still g c = Still-trans _ _ _ c.answer_at.ensures.still c.append_attributes.ensures.still
-
-pub returns-clause-still : goal.returns-clause-still
-returns-clause-still g c = Still-trans _ _ _ c.answer_at.ensures.still c.append_attributes.ensures.still

@@ -1,8 +1,8 @@
 use Rattle.std.proofs.Common.{arith, append_assoc}
 use Rattle.std.proofs.lemmas.Fmt.{decimal_digit, decimal_step}
 use Rattle.std.proofs.lemmas.Grind.{common_steps}
-use Rattle.js_ops.proofs.conversions.+push_decimal.Goals as goal
-use Rattle.js_ops.proofs.conversions.+push_decimal.Goals.{then-number-ge10+in_ok-push_decimal, else-number-ge10}
+use Rattle.page_units.proofs.digits.+push_decimal.Goals as goal
+use Rattle.page_units.proofs.digits.+push_decimal.Goals.{then-number-ge10+in_ok-push_decimal, else-number-ge10}
 
 pub returns : goal.returns
 returns t c =

@@ -1,4 +1,4 @@
-use Rattle.js_ops.proofs.conversions.+push_decimal.Given as goal
+use Rattle.page_units.proofs.digits.+push_decimal.Given as goal
 
 abbrev pub decreases-push_decimal : goal.decreases-push_decimal
 decreases-push_decimal l = l.number

@@ -1,7 +1,7 @@
 use Rattle.std.proofs.Common.{◌+◌, ◌/◌, ◌%◌, length, decimal, ap, sym, ◌∙◌, arith}
 use Rattle.std.proofs.lemmas.Fmt.{decimal_digit, decimal_step, length-decimal-le}
 use Rattle.std.proofs.lemmas.List.{length_push}
-use Rattle.js_ops.proofs.conversions.+decimal_len.Goals as goal
+use Rattle.page_units.proofs.digits.+decimal_len.Goals as goal
 
 pub returns-then-number-lt10-clause-count : goal.returns-then-number-lt10-clause-count
 returns-then-number-lt10-clause-count t c = sym (ap length (decimal_digit c.args.number (omega arith)))

@@ -1,4 +1,4 @@
-use Rattle.js_ops.proofs.conversions.+decimal_len.Given as goal
+use Rattle.page_units.proofs.digits.+decimal_len.Given as goal
 
 abbrev pub decreases-decimal_len : goal.decreases-decimal_len
 decreases-decimal_len l = l.number
