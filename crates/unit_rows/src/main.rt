@@ -51,7 +51,7 @@ fn spelled(
         "texts of characters" => spelling::characters(alloc, fields),
         "characters behind one another" => spelling::appended(alloc, fields),
         "digits of numbers" => spelling::digits(alloc, fields),
-        "numbers behind one another" => spelling::two_numbers(alloc, fields),
+        "numbers behind one another" => spelling::numbers(alloc, fields),
         _ => outside(rt, alloc, group, fields),
     }
 }

@@ -46,8 +46,8 @@ pub fn digits(alloc: Global, fields: &[String]) -> Result<String, AllocError> {
     Ok(told)
 }
 
-/// The units of two numbers, one behind the other.
-pub fn two_numbers(alloc: Global, fields: &[String]) -> Result<String, AllocError> {
+/// The units of numbers, one behind another.
+pub fn numbers(alloc: Global, fields: &[String]) -> Result<String, AllocError> {
     let mut units = Vec::new(alloc);
     for number in fields {
         push_number(&mut units, number.parse::<i64>().unwrap_or(0))?;
