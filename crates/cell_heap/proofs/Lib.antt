@@ -1,3 +1,4 @@
-pub mod Putting
+pub mod Bare
 pub mod StartKinds
-pub mod StartIsSound
+pub mod StartRows
+pub mod Putting

@@ -1,58 +1,8 @@
--- The kinds of the cells that a page starts with.
-use Rattle.std.proofs.Common.{◌≡◌, ℕ, ◌+◌, zero, suc, List, [], ◌∷◌, ◌++◌, length, take, Bool, true, false, ◌&&◌, Some, None, slice_get, refl, ap, sym, ◌∙◌, subst, arith, add-zero, zero-add, append_assoc}
-use Rattle.std.specs.Prelude.{nat_lt}
-use Rattle.std.specs.List.{list_all}
+-- The kinds of the cells that a page starts with, as they are pushed.
+use Rattle.std.proofs.Common.{◌≡◌, ℕ, ◌+◌, zero, suc, List, [], ◌∷◌, ◌++◌, ap, sym, ◌∙◌, arith, add-zero, zero-add, append_assoc}
 use Rattle.cell_places.specs.declared.kind.CellKind.{CellKind}
 use Rattle.cell_places.specs.declared.kind.CellKind.TheVariants as k
-use Rattle.cell_places.specs.Start.{natives, start_kinds}
-
--- names no cell, and if built in is one of the 89
-abbrev pub is_first : CellKind → Bool
-is_first (k.Scope None) = true
-is_first (k.Scope (Some outer)) = false
-is_first (k.Fun code scope) = false
-is_first (k.Native which) = nat_lt which 89
-is_first _ = true
-
--- where both hold, each does
-both_true : (a b : Bool) → (a && b) ≡ true → (a ≡ true) × (b ≡ true)
-both_true true b e = (refl, e)
-both_true false b e = cc
-
--- a test of all kinds holds of each
-each_passes : (test : CellKind → Bool) (kinds : List CellKind) → list_all test kinds ≡ true → (n : ℕ) (k : CellKind) → slice_get kinds n ≡ Some k → test k ≡ true
-each_passes test [] e n k g = cc
-each_passes test (x ∷ kinds) e zero k g =
-    let same : x ≡ k = cc in
-    subst (λ (y : CellKind). test y ≡ true) same (both_true (test x) (list_all test kinds) e).0
-each_passes test (x ∷ kinds) e (suc n) k g = each_passes test kinds (both_true (test x) (list_all test kinds) e).1 n k g
-
--- Kinds that a page can start with: its page, document and nodes' prototype in their places, and the document's three
--- functions.
-pub record Founds (kinds : List CellKind) : Type 0 where
-  pub count : length kinds ≡ 128
-  pub start : take 128 kinds ≡ start_kinds
-  pub page : slice_get kinds 1 ≡ Some k.Page
-  pub document : slice_get kinds 2 ≡ Some k.Document
-  pub prototype : slice_get kinds 14 ≡ Some k.Plain
-  pub get_element : slice_get kinds 95 ≡ Some (k.Native 74)
-  pub create_element : slice_get kinds 96 ≡ Some (k.Native 75)
-  pub create_text : slice_get kinds 97 ≡ Some (k.Native 76)
-  pub each : (n : ℕ) (kind : CellKind) → slice_get kinds n ≡ Some kind → is_first kind ≡ true
-
--- the kinds that a page starts with are such
-pub start_founds : Founds start_kinds
-start_founds = record {
-  count = refl;
-  start = refl;
-  page = refl;
-  document = refl;
-  prototype = refl;
-  get_element = refl;
-  create_element = refl;
-  create_text = refl;
-  each = each_passes is_first start_kinds refl;
-}
+use Rattle.cell_places.specs.Start.{natives}
 
 -- one built-in function more
 pub natives-more : (from many : ℕ) → natives from (many + 1) ≡ natives from many ++ k.Native (from + many) ∷ []

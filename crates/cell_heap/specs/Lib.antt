@@ -1,3 +1,3 @@
 pub mod Slots
 pub mod Base
-pub mod StartPuts
+pub mod StartParts

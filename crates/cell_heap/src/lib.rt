@@ -3,6 +3,8 @@
 #![tactic(auto)]
 
 pub mod base;
+mod start;
+mod tables;
 
 pub use base::Base;
 pub use cell_places::{

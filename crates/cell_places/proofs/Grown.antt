@@ -1,5 +1,5 @@
 -- What was true of kinds stays true when one more cell is made.
-use Rattle.std.proofs.Common.{◌≡◌, ℕ, ◌+◌, ◌≤◌, zero, suc, length, take, Option, Some, None, slice_get, List, [], ◌∷◌, ◌++◌, Bool, true, false, refl, ap, ◌∙◌, inl, inr, ◌⊎◌, arith}
+use Rattle.std.proofs.Common.{◌≡◌, ℕ, ◌+◌, ◌<◌, ◌≤◌, zero, suc, length, take, Option, Some, None, slice_get, List, [], ◌∷◌, ◌++◌, Bool, true, false, refl, ap, ◌∙◌, inl, inr, ◌⊎◌, arith}
 use Rattle.std.proofs.lemmas.Bool.{lt-ltb, ltb-true}
 use Rattle.std.proofs.lemmas.Option.{slice_get_past}
 use Rattle.std.proofs.lemmas.List.{length-take, length-append}
@@ -55,13 +55,6 @@ pub kind_in-grown : (test : CellKind → Bool) → test kind.Plain ≡ false →
 kind_in-grown test plain [] k n h = absurd (cc)
 kind_in-grown test plain (z ∷ kinds) k zero h = h
 kind_in-grown test plain (z ∷ kinds) k (suc n) h = kind_in-grown test plain kinds k n h
-
--- and so does one that the new cell passes
-pub kind_in-grown_by : (test : CellKind → Bool) (kinds : List CellKind) (k : CellKind) → test kind.Plain ≡ true → test k ≡ true → (n : ℕ) → test (or_plain (slice_get kinds n)) ≡ true → test (or_plain (slice_get (kinds ++ k ∷ []) n)) ≡ true
-kind_in-grown_by test [] k plain new zero h = new
-kind_in-grown_by test [] k plain new (suc n) h = plain
-kind_in-grown_by test (z ∷ kinds) k plain new zero h = h
-kind_in-grown_by test (z ∷ kinds) k plain new (suc n) h = kind_in-grown_by test kinds k plain new n h
 
 -- ---- names
 
@@ -123,7 +116,7 @@ Stands-put kinds p (a.Timers ts) h = h
 Stands-put kinds p (a.Guesses gs) h = h
 
 -- a cell that isn't there has no place to ask
-nothing_past : (kinds : List CellKind) (p : Place) → length kinds ≤ p.cell.0 → CanAskIn kinds p → ⊥
+pub nothing_past : (kinds : List CellKind) (p : Place) → length kinds ≤ p.cell.0 → CanAskIn kinds p → ⊥
 nothing_past kinds p past h = let none = slice_get_past kinds p.cell.0 past in let some = h.1 in cc
 
 stands_past : (kinds : List CellKind) (p : Place) → length kinds ≤ p.cell.0 → (x : Answer) → Stands kinds p x → x ≡ a.Absent
@@ -141,6 +134,11 @@ absent_past H valid p past = stands_past H.kinds p past (H.at p) (valid.places p
 
 -- ---- sound answers and kinds
 
+pub slice_get-grown_same : {X : Type 0} (xs : List X) (y : X) (n : ℕ) → n < length xs → slice_get (xs ++ y ∷ []) n ≡ slice_get xs n
+slice_get-grown_same [] y n l = absurd (omega arith)
+slice_get-grown_same (x ∷ xs) y zero l = refl
+slice_get-grown_same (x ∷ xs) y (suc n) l = slice_get-grown_same xs y n (omega arith)
+
 called_grown : (kinds : List CellKind) (k : CellKind) (n : CellName) → IsCalled kinds n → IsCalled (kinds ++ k ∷ []) n
 called_grown kinds k n h = kind_in-grown is_function refl kinds k n.0 h
 
@@ -148,24 +146,28 @@ called_if_grown : (kinds : List CellKind) (k : CellKind) (o : Option CellName) �
 called_if_grown kinds k None h = tt
 called_if_grown kinds k (Some n) h = called_grown kinds k n h
 
-value_sound_grown : (kinds : List CellKind) (k : CellKind) → is_object k ≡ true → (x : Value) → AnswerIsSound kinds (a.One x) → AnswerIsSound (kinds ++ k ∷ []) (a.One x)
-value_sound_grown kinds k object v.Undefined h = tt
-value_sound_grown kinds k object v.Null h = tt
-value_sound_grown kinds k object (v.Bool b) h = tt
-value_sound_grown kinds k object (v.Num z) h = tt
-value_sound_grown kinds k object (v.Str t) h = tt
-value_sound_grown kinds k object (v.Cell n) h = kind_in-grown_by is_object kinds k refl object n.0 h
+-- a value that names a cell below the count doesn't see the new one
+value_sound_grown : (kinds : List CellKind) (k : CellKind) (x : Value) → ValueIn (is_below (length kinds)) x → AnswerIsSound kinds (a.One x) → AnswerIsSound (kinds ++ k ∷ []) (a.One x)
+value_sound_grown kinds k v.Undefined below h = tt
+value_sound_grown kinds k v.Null below h = tt
+value_sound_grown kinds k (v.Bool b) below h = tt
+value_sound_grown kinds k (v.Num z) below h = tt
+value_sound_grown kinds k (v.Str t) below h = tt
+value_sound_grown kinds k (v.Cell n) below h =
+    ap (λ o. is_object (or_plain o)) (slice_get-grown_same kinds k n.0 (ltb-true n.0 (length kinds) below)) ∙ h
 
-pub AnswerIsSound-grown : (kinds : List CellKind) (k : CellKind) → is_object k ≡ true → (x : Answer) → AnswerIsSound kinds x → AnswerIsSound (kinds ++ k ∷ []) x
-AnswerIsSound-grown kinds k object a.Absent h = tt
-AnswerIsSound-grown kinds k object (a.One x) h = value_sound_grown kinds k object x h
-AnswerIsSound-grown kinds k object (a.Names ns) h = tt
-AnswerIsSound-grown kinds k object (a.Cells cs) h = tt
-AnswerIsSound-grown kinds k object (a.Heard next ls) h =
-    (Every-map _ _ (λ (l : Listener) p. (called_grown kinds k l.callback p.0, p.1)) ls h.0, h.1)
-AnswerIsSound-grown kinds k object (a.Timers ts) h = (Every-map _ _ (λ (t : Timer). called_grown kinds k t.callback) ts h.0, h.1)
-AnswerIsSound-grown kinds k object (a.Guesses gs) h =
-    (Every-map _ _ (λ (g : Guess) p. (called_if_grown kinds k g.mutator p.0, called_if_grown kinds k g.sketch p.1)) gs h.0, h.1)
+-- an answer that stands stays sound whatever the new cell is
+pub AnswerIsSound-grown : (kinds : List CellKind) (k : CellKind) (p : Place) (x : Answer) → Stands kinds p x → AnswerIsSound kinds x → AnswerIsSound (kinds ++ k ∷ []) x
+AnswerIsSound-grown kinds k p a.Absent stands h = tt
+AnswerIsSound-grown kinds k p (a.One x) stands h = value_sound_grown kinds k x stands.names h
+AnswerIsSound-grown kinds k p (a.Names ns) stands h = tt
+AnswerIsSound-grown kinds k p (a.Cells cs) stands h = tt
+AnswerIsSound-grown kinds k p (a.Heard next ls) stands h =
+    (Every-map _ _ (λ (l : Listener) q. (called_grown kinds k l.callback q.0, q.1)) ls h.0, h.1)
+AnswerIsSound-grown kinds k p (a.Timers ts) stands h =
+    (Every-map _ _ (λ (t : Timer). called_grown kinds k t.callback) ts h.0, h.1)
+AnswerIsSound-grown kinds k p (a.Guesses gs) stands h =
+    (Every-map _ _ (λ (g : Guess) q. (called_if_grown kinds k g.mutator q.0, called_if_grown kinds k g.sketch q.1)) gs h.0, h.1)
 
 scope_sound_grown : (codes : ℕ) (kinds : List CellKind) (k : CellKind) (outer : Option CellName) → KindIsSound codes kinds (kind.Scope outer) → KindIsSound codes (kinds ++ k ∷ []) (kind.Scope outer)
 scope_sound_grown codes kinds k None h = tt

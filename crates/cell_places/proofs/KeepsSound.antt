@@ -9,13 +9,13 @@ use Rattle.cell_places.specs.declared.place.Slot.TheVariants as s
 use Rattle.cell_places.specs.declared.answer.Answer.{Answer}
 use Rattle.cell_places.specs.declared.kind.CellKind.{CellKind}
 use Rattle.cell_places.specs.Lists.{Among, Distinct}
-use Rattle.cell_places.specs.Kinds.{is_object, is_child}
+use Rattle.cell_places.specs.Kinds.{is_child}
 use Rattle.cell_places.specs.Heap.{Heap, place, put_at, cells_in, weight_left, names_in, number_in, next_heard, next, kind_at, children_at}
 use Rattle.cell_places.specs.Within.{KindIn, is_below}
 use Rattle.cell_places.specs.Valid.{CanPut, Stands, IsValid}
 use Rattle.cell_places.specs.Acts.{made, placed, moved}
 use Rattle.cell_places.specs.Start.{page_cell}
-use Rattle.cell_places.specs.Sound.{KindIsSound, AnswerIsSound, IdsBelow, AttributesAreListed, ParentsEnd, top, up, NodesAreTrees, PageIsSound, SumsWithin, LengthFits, IsSound}
+use Rattle.cell_places.specs.Sound.{KindIsSound, AnswerIsSound, IdsBelow, AttributesAreListed, ParentsEnd, top, up, NodesAreTrees, PageIsSound, SumsWith, SumsWithin, LengthFits, IsSound}
 use Rattle.cell_places.proofs.SamePlace.{put_at-other, put_at-each}
 use Rattle.cell_places.proofs.Grown.{slice_get-grown_cases, length-grown, kind_in-grown, Stands-grown, Stands-put, AnswerIsSound-grown, KindIsSound-grown, count-start}
 
@@ -43,9 +43,13 @@ is_quiet s.Chars = true
 is_quiet s.Flags = true
 is_quiet _ = false
 
+-- nothing changed at this slot of any cell
+abbrev pub Keeps : Slot → (Place → Answer) → (Place → Answer) → Type 0
+Keeps slot f g = (n : CellName) → g (place n slot) ≡ f (place n slot)
+
 -- outside a class of slots nothing changed
 abbrev pub KeepsOutside : (Slot → Bool) → (Place → Answer) → (Place → Answer) → Type 0
-KeepsOutside class f g = (slot : Slot) → class slot ≡ false → (n : CellName) → g (place n slot) ≡ f (place n slot)
+KeepsOutside class f g = (slot : Slot) → class slot ≡ false → Keeps slot f g
 
 pub KeepsOutside-put : (class : Slot → Bool) (f : Place → Answer) (p : Place) (x : Answer) → class p.slot ≡ true → KeepsOutside class f (put_at f p x)
 KeepsOutside-put class f p x is slot not n =
@@ -56,25 +60,30 @@ KeepsOutside-trans class f g h first second slot not n = second slot not n ∙ f
 
 -- ---- sums
 
-pub SumsWithin-more : (bound more : ℕ) (H : Heap) → bound ≤ more → SumsWithin bound H → SumsWithin more H
-SumsWithin-more bound more H le h = record {
+-- less weight and a greater bound
+pub SumsWith-more : (weight less bound more : ℕ) (H : Heap) → less ≤ weight → bound ≤ more → SumsWith weight bound H → SumsWith less more H
+SumsWith-more weight less bound more H few le h = record {
   count = let c = h.count in omega arith;
   heard = λ n. let c = h.heard n in omega arith;
   timers = λ n. let c = h.timers n in omega (arith, ints);
   guesses = λ n. let c = h.guesses n in omega (arith, ints);
 }
 
-pub SumsWithin-kept : (bound : ℕ) (H : Heap) (g : Place → Answer) → KeepsOutside is_free H.at g → SumsWithin bound H → SumsWithin bound (record H { at = g })
-SumsWithin-kept bound H g keeps h = record {
+pub SumsWithin-more : (bound more : ℕ) (H : Heap) → bound ≤ more → SumsWithin bound H → SumsWithin more H
+SumsWithin-more bound more H le h = SumsWith-more (weight_left H) (weight_left H) bound more H (omega arith) le h
+
+-- the three slots that the sums read stay
+pub SumsWith-kept : (weight bound : ℕ) (H : Heap) (g : Place → Answer) → Keeps s.Heard H.at g → Keeps s.NextTimer H.at g → Keeps s.NextGuess H.at g → SumsWith weight bound H → SumsWith weight bound (record H { at = g })
+SumsWith-kept weight bound H g heard timer guess h = record {
   count = h.count;
-  heard = λ n. let P : Answer → Type 0 = λ x. next_heard x + weight_left H ≤ bound in subst P (sym (keeps s.Heard refl n)) (h.heard n);
-  timers = λ n. let P : Answer → Type 0 = λ x. (number_in x +ℤ pos (weight_left H)) ≤ℤ pos bound in subst P (sym (keeps s.NextTimer refl n)) (h.timers n);
-  guesses = λ n. let P : Answer → Type 0 = λ x. (number_in x +ℤ pos (weight_left H)) ≤ℤ pos bound in subst P (sym (keeps s.NextGuess refl n)) (h.guesses n);
+  heard = λ n. let P : Answer → Type 0 = λ x. next_heard x + weight ≤ bound in subst P (sym (heard n)) (h.heard n);
+  timers = λ n. let P : Answer → Type 0 = λ x. (number_in x +ℤ pos weight) ≤ℤ pos bound in subst P (sym (timer n)) (h.timers n);
+  guesses = λ n. let P : Answer → Type 0 = λ x. (number_in x +ℤ pos weight) ≤ℤ pos bound in subst P (sym (guess n)) (h.guesses n);
 }
 
 -- a made cell adds one to the count
-pub SumsWithin-made : (bound : ℕ) (H : Heap) (n : CellName) (k : CellKind) → length H.kinds + 1 + weight_left H ≤ bound → SumsWithin bound H → SumsWithin bound (moved H (made n k))
-SumsWithin-made bound H n k room h = record {
+pub SumsWith-made : (weight bound : ℕ) (H : Heap) (n : CellName) (k : CellKind) → length H.kinds + 1 + weight ≤ bound → SumsWith weight bound H → SumsWith weight bound (moved H (made n k))
+SumsWith-made weight bound H n k room h = record {
   count = let l = length-grown H.kinds k in omega arith;
   heard = h.heard;
   timers = h.timers;
@@ -101,28 +110,45 @@ NodesAreTrees-kept H K parent children grown h =
 
 -- ---- the rest
 
-LengthFits-kept : (x y : Answer) → y ≡ x → LengthFits x → LengthFits y
+pub LengthFits-kept : (x y : Answer) → y ≡ x → LengthFits x → LengthFits y
 LengthFits-kept x y e h = subst LengthFits (sym e) h
 
-pub AttributesAreListed-kept : (H K : Heap) (n : CellName) → KeepsOutside is_free H.at K.at → AttributesAreListed H n → AttributesAreListed K n
-AttributesAreListed-kept H K n keeps h =
-    let same : names_in (K.at (place n s.AttrNames)) ≡ names_in (H.at (place n s.AttrNames)) = ap names_in (keeps s.AttrNames refl n) in
+pub AttributesAreListed-kept : (H K : Heap) (n : CellName) → K.at (place n s.AttrNames) ≡ H.at (place n s.AttrNames) → ((name : List ℕ) → K.at (place n (s.Attr name)) ≡ H.at (place n (s.Attr name))) → AttributesAreListed H n → AttributesAreListed K n
+AttributesAreListed-kept H K n names keeps h =
+    let same : names_in (K.at (place n s.AttrNames)) ≡ names_in (H.at (place n s.AttrNames)) = ap names_in names in
     record {
       once = subst Distinct (sym same) h.once;
-      there = λ name among none. h.there name (subst (Among name) same among) (sym (keeps (s.Attr name) refl n) ∙ none);
-      all = λ name some. subst (Among name) (sym same) (h.all name (λ none. some (keeps (s.Attr name) refl n ∙ none)));
+      there = λ name among none. h.there name (subst (Among name) same among) (sym (keeps name) ∙ none);
+      all = λ name some. subst (Among name) (sym same) (h.all name (λ none. some (keeps name ∙ none)));
     }
 
-IdsBelow-kept : (x y k l : Answer) → y ≡ x → l ≡ k → IdsBelow (number_in x) k → IdsBelow (number_in y) l
+pub IdsBelow-kept : (x y k l : Answer) → y ≡ x → l ≡ k → IdsBelow (number_in x) k → IdsBelow (number_in y) l
 IdsBelow-kept x y k l e f h =
     let P : Answer → Type 0 = λ z. IdsBelow (number_in z) l in
     subst P (sym e) (subst (IdsBelow (number_in x)) (sym f) h)
 
-pub PageIsSound-kept : (H K : Heap) → KeepsOutside is_free H.at K.at → PageIsSound H → PageIsSound K
+-- the five slots of the page stay
+pub record KeepsPage (f g : Place → Answer) : Type 0 where
+  pub clock : Keeps s.Clock f g
+  pub next_timer : Keeps s.NextTimer f g
+  pub timers : Keeps s.Timers f g
+  pub next_guess : Keeps s.NextGuess f g
+  pub guesses : Keeps s.Guesses f g
+
+pub PageIsSound-kept : (H K : Heap) → KeepsPage H.at K.at → PageIsSound H → PageIsSound K
 PageIsSound-kept H K keeps h = record {
-  clock = (h.clock.0, keeps s.Clock refl page_cell ∙ h.clock.1, h.clock.2, h.clock.3);
-  timers = λ n. IdsBelow-kept _ _ _ _ (keeps s.NextTimer refl n) (keeps s.Timers refl n) (h.timers n);
-  guesses = λ n. IdsBelow-kept _ _ _ _ (keeps s.NextGuess refl n) (keeps s.Guesses refl n) (h.guesses n);
+  clock = (h.clock.0, keeps.clock page_cell ∙ h.clock.1, h.clock.2, h.clock.3);
+  timers = λ n. IdsBelow-kept _ _ _ _ (keeps.next_timer n) (keeps.timers n) (h.timers n);
+  guesses = λ n. IdsBelow-kept _ _ _ _ (keeps.next_guess n) (keeps.guesses n) (h.guesses n);
+}
+
+pub KeepsPage-outside : (class : Slot → Bool) (f g : Place → Answer) → KeepsOutside class f g → class s.Clock ≡ false → class s.NextTimer ≡ false → class s.Timers ≡ false → class s.NextGuess ≡ false → class s.Guesses ≡ false → KeepsPage f g
+KeepsPage-outside class f g keeps clock next_timer timers next_guess guesses = record {
+  clock = keeps s.Clock clock;
+  next_timer = keeps s.NextTimer next_timer;
+  timers = keeps s.Timers timers;
+  next_guess = keeps s.NextGuess next_guess;
+  guesses = keeps s.Guesses guesses;
 }
 
 -- ---- a made cell
@@ -142,23 +168,23 @@ IsValid-made H k valid room names = record {
   spent = valid.spent;
 }
 
-sound_kind_made : (codes : ℕ) (kinds : List CellKind) (k : CellKind) → ((n : ℕ) (x : CellKind) → slice_get kinds n ≡ Some x → KindIsSound codes kinds x) → KindIsSound codes (kinds ++ k ∷ []) k
+sound_kind_made : (codes : ℕ) (kinds : List CellKind) (k : CellKind) → ((n : ℕ) (x : CellKind) → slice_get kinds n ≡ Some x → KindIsSound codes kinds x) → KindIsSound codes kinds k
     → (n : ℕ) (x : CellKind) → (slice_get kinds n ≡ Some x) ⊎ ((n ≡ length kinds) × (k ≡ x)) → KindIsSound codes (kinds ++ k ∷ []) x
 sound_kind_made codes kinds k old new n x (inl e) = KindIsSound-grown codes kinds k x (old n x e)
-sound_kind_made codes kinds k old new n x (inr e) = subst (KindIsSound codes (kinds ++ k ∷ [])) e.1 new
+sound_kind_made codes kinds k old new n x (inr e) = KindIsSound-grown codes kinds k x (subst (KindIsSound codes kinds) e.1 new)
 
--- a made cell keeps a sound heap sound
-pub IsSound-made : (codes : ℕ) (H : Heap) (k : CellKind) → IsSound codes H → length H.kinds + 1 + weight_left H ≤ 3999999999 → KindIn (is_below (length H.kinds)) k → is_object k ≡ true → KindIsSound codes (H.kinds ++ k ∷ []) k → IsSound codes (moved H (made (next H) k))
-IsSound-made codes H k sound room names object of_kind = record {
+-- a made cell of any kind keeps a sound heap sound
+pub sound_made : (codes : ℕ) (H : Heap) (k : CellKind) → IsSound codes H → length H.kinds + 1 + weight_left H ≤ 3999999999 → KindIn (is_below (length H.kinds)) k → KindIsSound codes H.kinds k → IsSound codes (moved H (made (next H) k))
+sound_made codes H k sound room names of_kind = record {
   valid = IsValid-made H k sound.valid (omega arith) names;
   start = take-append-le 128 H.kinds (k ∷ []) (count-start H.kinds sound.start) ∙ sound.start;
   kinds = λ n x e. sound_kind_made codes H.kinds k sound.kinds of_kind n x (slice_get-grown_cases H.kinds k n x e);
-  answers = λ p. AnswerIsSound-grown H.kinds k object (H.at p) (sound.answers p);
+  answers = λ p. AnswerIsSound-grown H.kinds k p (H.at p) (sound.valid.places p) (sound.answers p);
   lengths = sound.lengths;
   attributes = λ n. let h = sound.attributes n in record { once = h.once; there = h.there; all = h.all };
   nodes = NodesAreTrees-kept H (moved H (made (next H) k)) (λ n. refl) (λ n. refl) (λ n. kind_in-grown is_child refl H.kinds k n.0) sound.nodes;
   page = let h = sound.page in record { clock = h.clock; timers = h.timers; guesses = h.guesses };
-  sums = SumsWithin-made 3999999999 H (next H) k room sound.sums;
+  sums = SumsWith-made (weight_left H) 3999999999 H (next H) k room sound.sums;
 }
 
 -- puts at free slots keep a sound heap sound where nodes stay trees
@@ -169,10 +195,10 @@ IsSound-put codes H g sound keeps stands answers nodes = record {
   kinds = sound.kinds;
   answers = answers;
   lengths = λ n. LengthFits-kept _ _ (keeps s.Length refl n) (sound.lengths n);
-  attributes = λ n. AttributesAreListed-kept H (record H { at = g }) n keeps (sound.attributes n);
+  attributes = λ n. AttributesAreListed-kept H (record H { at = g }) n (keeps s.AttrNames refl n) (λ name. keeps (s.Attr name) refl n) (sound.attributes n);
   nodes = nodes;
-  page = PageIsSound-kept H (record H { at = g }) keeps sound.page;
-  sums = SumsWithin-kept 3999999999 H g keeps sound.sums;
+  page = PageIsSound-kept H (record H { at = g }) (KeepsPage-outside is_free H.at g keeps refl refl refl refl refl) sound.page;
+  sums = SumsWith-kept (weight_left H) 3999999999 H g (keeps s.Heard refl) (keeps s.NextTimer refl) (keeps s.NextGuess refl) sound.sums;
 }
 
 -- a put at a quiet slot keeps a sound heap sound

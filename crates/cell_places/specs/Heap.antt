@@ -1,5 +1,6 @@
 -- A heap as one map from places to answers.
-use Rattle.std.specs.Prelude.{ℕ, ℤ, pos, ◌-◌, List, [], length, Bool, cond, Option, Some, None, slice_get}
+use Rattle.std.specs.Prelude.{ℕ, ℤ, pos, ◌-◌, List, [], length, Bool, true, false, cond, Option, Some, None, slice_get}
+use Rattle.std.specs.Str.{bytes_eq}
 use Rattle.std.specs.Ordering.{eq_by_cmp}
 use Rattle.page_units.specs.declared.value.CellName.{CellName}
 use Rattle.page_units.specs.declared.value.Value.TheVariants as v
@@ -8,6 +9,9 @@ use Rattle.cell_places.specs.declared.place.Slot.TheVariants as s
 use Rattle.cell_places.specs.declared.place.Place.{Place}
 use Rattle.cell_places.specs.declared.answer.Answer.{Answer}
 use Rattle.cell_places.specs.declared.answer.Answer.TheVariants as a
+use Rattle.cell_places.specs.declared.answer.Listener.{Listener}
+use Rattle.cell_places.specs.declared.answer.Timer.{Timer}
+use Rattle.cell_places.specs.declared.answer.Guess.{Guess}
 use Rattle.cell_places.specs.declared.kind.CellKind.{CellKind}
 use Rattle.cell_places.specs.declared.kind.CellKind.TheVariants.{Plain}
 use Rattle.cell_places.specs.Places.{place_cmp}
@@ -73,6 +77,32 @@ number_in _ = pos 0
 abbrev pub next_heard : Answer → ℕ
 next_heard (a.Heard next ls) = next
 next_heard _ = 0
+
+abbrev pub listeners_in : Answer → List Listener
+listeners_in (a.Heard next ls) = ls
+listeners_in _ = []
+
+abbrev pub timers_in : Answer → List Timer
+timers_in (a.Timers ts) = ts
+timers_in _ = []
+
+abbrev pub guesses_in : Answer → List Guess
+guesses_in (a.Guesses gs) = gs
+guesses_in _ = []
+
+-- the cell, where the answer is one
+abbrev pub cell_in : Answer → Option CellName
+cell_in (a.One (v.Cell n)) = Some n
+cell_in _ = None
+
+abbrev pub is_absent : Answer → Bool
+is_absent a.Absent = true
+is_absent _ = false
+
+-- the answer is this text
+abbrev pub is_text : List ℕ → Answer → Bool
+is_text units (a.One (v.Str t)) = bytes_eq t units
+is_text units _ = false
 
 -- the children of a node
 abbrev pub children_at : Heap → CellName → List CellName

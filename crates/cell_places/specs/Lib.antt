@@ -4,9 +4,17 @@ pub mod Kinds
 pub mod Slots
 pub mod Heap
 pub mod Within
+pub mod Outward
 pub mod Acts
 pub mod View
 pub mod Rooted
+pub mod ChangeNumbers
 pub mod Valid
+pub mod Known
+pub mod StartTable
+pub mod StartRows
 pub mod Start
 pub mod Sound
+pub mod Fine
+pub mod Spare
+pub mod Ancestors

@@ -2,11 +2,12 @@
 use Rattle.std.specs.Prelude.{◌≡◌, ℕ, List, [], refl}
 use Rattle.std.proofs.Common.{sym, ◌∙◌, zero, suc}
 use Rattle.std.specs.Cmp.{IsTotalOrder, on_total, then_total, nat_cmp_total}
-use Rattle.std.specs.Cmp.Lexicographic.{slice_cmp, nat_list_cmp_total}
+use Rattle.std.specs.Cmp.Lexicographic.{nat_list_cmp_total}
 use Rattle.std.specs.Ordering.{nat_cmp, on, then_cmp, ordering_then}
 use Rattle.std.specs.declared.cmp.Ordering.{Ordering}
 use Rattle.std.specs.declared.cmp.Ordering.TheVariants.{Less, Equal, Greater}
 use Rattle.std.proofs.lemmas.Map.Lookups.{CmpEqualImpliesEq, exact_unsigned, exact_bytes}
+use Rattle.page_units.specs.Texts.{text_cmp}
 use Rattle.cell_places.specs.declared.place.Slot.{Slot}
 use Rattle.cell_places.specs.declared.place.Slot.TheVariants.{Own, Keys, Proto, Length, Bind, Parent, Children, Attr, AttrNames, Chars, Heard, Flags, Clock, NextTimer, Timers, NextGuess, Guesses}
 use Rattle.cell_places.specs.declared.place.Place.{Place}
@@ -51,7 +52,7 @@ slot_units Guesses = []
 
 -- by cell, then by rank, then by text
 abbrev pub place_cmp : Place → Place → Ordering
-place_cmp = then_cmp (then_cmp (on (λ p. p.cell.0) nat_cmp) (on (λ p. slot_rank p.slot) nat_cmp)) (on (λ p. slot_units p.slot) (slice_cmp nat_cmp))
+place_cmp = then_cmp (then_cmp (on (λ p. p.cell.0) nat_cmp) (on (λ p. slot_rank p.slot) nat_cmp)) (on (λ p. slot_units p.slot) text_cmp)
 
 pub place_cmp_total : IsTotalOrder place_cmp
 place_cmp_total = then_total (then_total (on_total (λ p. p.cell.0) nat_cmp_total) (on_total (λ p. slot_rank p.slot) nat_cmp_total)) (on_total (λ p. slot_units p.slot) nat_list_cmp_total)

@@ -1,6 +1,7 @@
 -- Sound heaps: those that loading, page code and commands keep (this project's own). `codes` is how many function
 -- codes the page has.
 use Rattle.std.specs.Prelude.{◌≡◌, ◌≢◌, ◌<◌, ◌≤◌, ◌+◌, ℕ, ℤ, pos, ◌+ℤ◌, ◌≤ℤ◌, ◌<ℤ◌, true, List, map, take, length, Option, Some, None, slice_get}
+use Rattle.page_units.specs.Numbers.{greatest_number}
 use Rattle.page_units.specs.declared.value.CellName.{CellName}
 use Rattle.page_units.specs.declared.value.Value.TheVariants as v
 use Rattle.cell_places.specs.declared.place.Slot.TheVariants as s
@@ -16,13 +17,15 @@ use Rattle.cell_places.specs.Lists.{Every, Among, Distinct}
 use Rattle.cell_places.specs.Kinds.{is_scope, is_function, is_object, is_child}
 use Rattle.cell_places.specs.Heap.{Heap, place, kind_in, kind_at, weight_left, names_in, number_in, next_heard, children_at}
 use Rattle.cell_places.specs.Valid.{IsValid}
+use Rattle.cell_places.specs.Known.{native_count}
 use Rattle.cell_places.specs.Start.{page_cell, start_kinds}
 
--- A function of the page has a code and a scope, a scope lies in none or in a scope, and a built-in is one of the 89.
+-- A function of the page has a code and a scope, a scope lies in none or in a scope, and a built-in is one of those
+-- that there are.
 abbrev pub KindIsSound : (codes : ℕ) → List CellKind → CellKind → Type 0
 KindIsSound codes kinds (k.Fun code scope) = (code < codes) × (is_scope (kind_in kinds scope) ≡ true)
 KindIsSound codes kinds (k.Scope (Some outer)) = is_scope (kind_in kinds outer) ≡ true
-KindIsSound codes kinds (k.Native which) = which < 89
+KindIsSound codes kinds (k.Native which) = which < native_count
 KindIsSound codes kinds _ = Unit {0}
 
 abbrev pub IsCalled : List CellKind → CellName → Type 0
@@ -76,16 +79,20 @@ pub record NodesAreTrees (H : Heap) : Type 0 where
 
 -- The page's clock is there, from 0 to 2^53 - 1, and each id is below the next one of its kind.
 pub record PageIsSound (H : Heap) : Type 0 where
-  pub clock : (z : ℤ) × (H.at (place page_cell s.Clock) ≡ a.One (v.Num z)) × (pos 0 ≤ℤ z) × (z ≤ℤ pos 9007199254740991)
+  pub clock : (z : ℤ) × (H.at (place page_cell s.Clock) ≡ a.One (v.Num z)) × (pos 0 ≤ℤ z) × (z ≤ℤ pos greatest_number)
   pub timers : (n : CellName) → IdsBelow (number_in (H.at (place n s.NextTimer))) (H.at (place n s.Timers))
   pub guesses : (n : CellName) → IdsBelow (number_in (H.at (place n s.NextGuess))) (H.at (place n s.Guesses))
 
--- The count, each number of listeners and the next ids stay within a bound when the weight that is left is added.
-pub record SumsWithin (bound : ℕ) (H : Heap) : Type 0 where
-  pub count : length H.kinds + weight_left H ≤ bound
-  pub heard : (n : CellName) → next_heard (H.at (place n s.Heard)) + weight_left H ≤ bound
-  pub timers : (n : CellName) → (number_in (H.at (place n s.NextTimer)) +ℤ pos (weight_left H)) ≤ℤ pos bound
-  pub guesses : (n : CellName) → (number_in (H.at (place n s.NextGuess)) +ℤ pos (weight_left H)) ≤ℤ pos bound
+-- The count, each number of listeners and the next ids stay within a bound when this weight is added.
+pub record SumsWith (weight bound : ℕ) (H : Heap) : Type 0 where
+  pub count : length H.kinds + weight ≤ bound
+  pub heard : (n : CellName) → next_heard (H.at (place n s.Heard)) + weight ≤ bound
+  pub timers : (n : CellName) → (number_in (H.at (place n s.NextTimer)) +ℤ pos weight) ≤ℤ pos bound
+  pub guesses : (n : CellName) → (number_in (H.at (place n s.NextGuess)) +ℤ pos weight) ≤ℤ pos bound
+
+-- and when the weight that is left is added
+abbrev pub SumsWithin : (bound : ℕ) → Heap → Type 0
+SumsWithin bound H = SumsWith (weight_left H) bound H
 
 abbrev pub LengthFits : Answer → Type 0
 LengthFits x = (pos 0 ≤ℤ number_in x) × (number_in x ≤ℤ pos 65536)

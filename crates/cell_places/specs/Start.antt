@@ -1,25 +1,14 @@
--- The heap that a page starts with (this project's own): its 128 cells, and of their slots those of the page and of
--- the document.
-use Rattle.std.specs.Prelude.{ℕ, ℤ, pos, ◌+◌, zero, suc, List, [], ◌∷◌, ◌++◌, None, replicate, codes}
-use Rattle.page_units.specs.declared.value.CellName.{CellName}
-use Rattle.page_units.specs.declared.value.Value.TheVariants as v
-use Rattle.cell_places.specs.declared.place.Slot.TheVariants as s
-use Rattle.cell_places.specs.declared.answer.Answer.TheVariants.{Absent, One}
+-- The heap that a page starts with (this project's own): its 128 cells, and what stands at their slots.
+use Rattle.std.specs.Prelude.{ℕ, ℤ, ◌+◌, zero, suc, List, [], ◌∷◌, ◌++◌, None, replicate}
+use Rattle.cell_places.specs.declared.answer.Answer.TheVariants.{Absent}
 use Rattle.cell_places.specs.declared.kind.FaultName.TheVariants as f
 use Rattle.cell_places.specs.declared.kind.CellKind.{CellKind}
 use Rattle.cell_places.specs.declared.kind.CellKind.TheVariants.{Scope, Plain, List as ListKind, Fault, Native, Page, Document}
-use Rattle.cell_places.specs.Heap.{Heap, cell, place}
-use Rattle.cell_places.specs.Acts.{Act, placed, after}
-
--- the cells that the page, the document and the nodes' prototype are
-abbrev pub page_cell : CellName
-page_cell = cell 1
-
-abbrev pub document_cell : CellName
-document_cell = cell 2
-
-abbrev pub node_prototype : CellName
-node_prototype = cell 14
+use Rattle.cell_places.specs.Heap.{Heap}
+use Rattle.cell_places.specs.Acts.{Act, after}
+use Rattle.cell_places.specs.Known.{native_count, reserve_count}
+use Rattle.cell_places.specs.StartRows.{puts, start_rows}
+pub use Rattle.cell_places.specs.Known.{page_cell, document_cell, node_prototype}
 
 -- so many built-in functions, from a number on
 abbrev pub natives : ℕ → ℕ → List CellKind
@@ -35,25 +24,16 @@ start_objects =
     ∷ Fault f.Error ∷ Fault f.TypeError ∷ Fault f.RangeError ∷ Fault f.ReferenceError ∷ Fault f.SyntaxError
     ∷ Plain ∷ Plain ∷ Plain ∷ Plain ∷ Plain ∷ Plain ∷ Plain ∷ []
 
--- 21 to 109 the 89 built-in functions; 110 to 127 plain objects in reserve
+-- from 21 on the built-in functions; behind them plain objects in reserve
 abbrev pub start_kinds : List CellKind
-start_kinds = start_objects ++ (natives 0 89 ++ replicate 18 Plain)
+start_kinds = start_objects ++ (natives 0 native_count ++ replicate reserve_count Plain)
 
 -- cells without answers
 abbrev pub bare_heap : List CellKind → ℕ → Heap
 bare_heap kinds weight = record { at = λ p. Absent; kinds = kinds; spent = 0; limit = weight }
 
--- the clock, the first ids, and the document's prototype and functions, which are none of its keys
 abbrev pub start_puts : ℤ → List Act
-start_puts now =
-    placed (place page_cell s.Clock) (One (v.Num now))
-    ∷ placed (place page_cell s.NextTimer) (One (v.Num (pos 1)))
-    ∷ placed (place page_cell s.NextGuess) (One (v.Num (pos 1)))
-    ∷ placed (place document_cell s.Proto) (One (v.Cell node_prototype))
-    ∷ placed (place document_cell (s.Own (codes "getElementById"))) (One (v.Cell (cell 95)))
-    ∷ placed (place document_cell (s.Own (codes "createElement"))) (One (v.Cell (cell 96)))
-    ∷ placed (place document_cell (s.Own (codes "createTextNode"))) (One (v.Cell (cell 97)))
-    ∷ []
+start_puts now = puts (start_rows now)
 
 abbrev pub start : (weight : ℕ) (now : ℤ) → Heap
 start weight now = after (bare_heap start_kinds weight) (start_puts now)

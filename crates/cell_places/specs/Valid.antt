@@ -57,6 +57,10 @@ Stands kinds p (a.Heard next ls) = CanPutIn kinds p (a.Heard next ls)
 Stands kinds p (a.Timers ts) = CanPutIn kinds p (a.Timers ts)
 Stands kinds p (a.Guesses gs) = CanPutIn kinds p (a.Guesses gs)
 
+-- nothing stands at a cell that isn't there
+abbrev pub IsBare : Heap → Type 0
+IsBare H = (p : Place) → length H.kinds ≤ p.cell.0 → H.at p ≡ a.Absent
+
 pub record IsValid (H : Heap) : Type 0 where
   pub places : (p : Place) → Stands H.kinds p (H.at p)
   -- a kind names cells below its own

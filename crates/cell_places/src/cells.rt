@@ -1,9 +1,11 @@
 //! Cells that are asked, put and made.
-ghost use Rattle.std.specs.Prelude.{◌≡◌, ◌+◌, ◌<◌, ◌≤◌, length, slice_get, Some, IfOk, IfErr, OnOk, OnErr};
+ghost use Rattle.std.specs.Prelude.{◌≡◌, ◌+◌, ◌<◌, ◌≤◌, length, slice_get, Some, List};
+ghost use Rattle.std.specs.Prelude.{IfOk, IfErr, OnOk, OnErr};
 ghost use Rattle.cell_places.specs.Heap.{next};
-ghost use Rattle.cell_places.specs.Valid.{CanAsk, CanPut, CanMake};
-ghost use Rattle.cell_places.specs.Acts.{asked, placed, made, charged};
-ghost use Rattle.cell_places.specs.View.{View, heap, step, Lapsed};
+ghost use Rattle.cell_places.specs.Valid.{CanAsk, CanPut, CanMake, IsBare};
+ghost use Rattle.cell_places.specs.Acts.{Act, asked, placed, made, charged};
+ghost use Rattle.cell_places.specs.View.{View, heap, number_of, step, run, Lapsed};
+ghost use Rattle.cell_places.specs.ChangeNumbers.{KeepsNumber};
 
 use crate::answer::Answer;
 use crate::kind::CellKind;
@@ -20,24 +22,24 @@ pub enum CellFault {
 /// A heap of cells. Each call is one act on what a contract sees of it, and leaves all else as it
 /// was.
 pub trait Cells {
-    /// A heap, or a layer over what lies beneath, which tells its first reads.
+    /// A heap, or a layer over what lies beneath, which records its first reads.
     ghost seen: { Self → View };
 
-    /// What stands at the place. Want of memory changes nothing but that, over a layer, the read
-    /// may be told beneath.
+    /// What stands at the place. Out of memory, nothing changes but that, over a layer, the read
+    /// may be recorded beneath.
     fn ask(&mut self, place: &Place) -> Result<Answer, NoMemory>
         requires { CanAsk (heap (seen self.old)) place.now }
         ensures answer { IfOk result (λ a. a ≡ (heap (seen self.old)).at place.now) }
         ensures ok { IfOk result (λ a. seen self.new ≡ step (seen self.old) (asked place.now a)) }
         ensures err { OnErr result (Lapsed (seen self.old) (seen self.new) place.now) };
 
-    /// Puts an answer at the place, and changes no other place. Want of memory changes nothing.
+    /// Puts an answer at the place, and changes no other place. Out of memory, nothing changes.
     fn put(&mut self, place: &Place, answer: Answer) -> Result<(), NoMemory>
         requires { CanPut (heap (seen self.old)) place.now answer }
         ensures ok { OnOk result (seen self.new ≡ step (seen self.old) (placed place.now answer)) }
         ensures err { OnErr result (seen self.new ≡ seen self.old) };
 
-    /// Makes a cell of this kind: its name is the count of cells. Want of memory changes nothing.
+    /// Makes a cell of this kind: its name is the count of cells. Out of memory, nothing changes.
     fn make(&mut self, kind: CellKind) -> Result<CellName, NoMemory>
         requires { CanMake (heap (seen self.old)) kind }
         ensures name { IfOk result (λ n. n ≡ next (heap (seen self.old))) }
@@ -62,7 +64,15 @@ pub trait Cells {
     fn spent(&self) -> u64
         ensures { result ≡ (heap (seen self.now)).spent };
 
-    /// How many cells there are.
+    /// How many cells there are. Nothing stands at a cell that isn't there.
     fn count(&self) -> u32
-        ensures { result ≡ length (heap (seen self.now)).kinds };
+        ensures count { result ≡ length (heap (seen self.now)).kinds }
+        ensures bare { IsBare (heap (seen self.now)) };
+
+    /// The change number of a cell. Whatever is done later: where a number is there then too, it
+    /// hasn't fallen, where it is the same, so is each answer at the cell, and where there is none
+    /// now, there is none then. It takes no memory.
+    fn number(&self, cell: CellName) -> Option<u64>
+        ensures number { result ≡ number_of (seen self.now) cell }
+        ensures kept { (acts : List Act) → KeepsNumber cell (seen self.now) (run (seen self.now) acts) };
 }

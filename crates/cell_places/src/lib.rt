@@ -11,5 +11,11 @@ pub mod place;
 pub use answer::{Answer, CellNames, Guess, Guesses, Listener, Listeners, Texts, Timer, Timers};
 pub use cells::{CellFault, Cells};
 pub use kind::{CellKind, FaultName};
-pub use known::{DOCUMENT, NODE_PROTOTYPE, PAGE};
+pub use known::{
+    BOOLEAN_PROTOTYPE, CONSOLE, CROM, DOCUMENT, ERROR_PROTOTYPE, EVENT_PROTOTYPE, FIRST_NATIVE,
+    FUNCTION_PROTOTYPE, GLOBAL_SCOPE, JSON, LIST_PROTOTYPE, MATH, NATIVE_COUNT, NET,
+    NODE_PROTOTYPE, NUMBER_PROTOTYPE, OBJECT_PROTOTYPE, PAGE, RANGE_ERROR_PROTOTYPE,
+    REFERENCE_ERROR_PROTOTYPE, RESERVE_COUNT, STRING_PROTOTYPE, SYNTAX_ERROR_PROTOTYPE,
+    TYPE_ERROR_PROTOTYPE, function_cell,
+};
 pub use place::{Place, Slot};

@@ -1,7 +1,7 @@
 -- From the programs of a page's scripts to how many it has.
 use Rattle.std.proofs.Common.{◌≡◌, ◌∙◌, ℕ, suc, List, [], ◌∷◌, length, refl, sym, ap, subst}
 use Rattle.std.specs.Prelude.{Result, Err}
-use Rattle.dom_tree.specs.Trees.{Trees}
+use Rattle.tree_shape.specs.Trees.{Trees}
 use Rattle.page_reader.specs.declared.fault.PageFault.{PageFault}
 use Rattle.page_reader.specs.declared.fault.PageFault.TheVariants as page
 use Rattle.page_reader.specs.declared.page.PageParts.{PageParts}

@@ -4,10 +4,10 @@ use Rattle.std.specs.Prelude.{Result, Err}
 use Rattle.page_units.specs.declared.limits.Limit.TheVariants.{Weight}
 use Rattle.page_units.specs.Limits.{default_limit}
 use Rattle.cell_places.specs.Heap.{Heap}
-use Rattle.cell_places.specs.View.{ground, heap}
+use Rattle.cell_places.specs.View.{ground, uncounted, heap}
 use Rattle.cell_places.specs.Start.{start}
 use Rattle.cell_places.proofs.Runs.{ground-run}
-use Rattle.dom_tree.specs.Trees.{Trees}
+use Rattle.tree_shape.specs.Trees.{Trees}
 use Rattle.page_reader.specs.declared.page.ScriptText.{ScriptText}
 use Rattle.page_reader.specs.Page.{IsPage}
 use Rattle.page_reader.specs.Planting.{planting, planted}
@@ -19,7 +19,7 @@ use Rattle.crom_host.specs.Loading.{OnlyReady}
 use Rattle.crom_host.specs.Plain.{Loads, start_moment}
 
 -- a page without scripts that was read into the heap of the start is loaded
-pub loaded : (H0 H1 : Heap) (page : List ℕ) (scripts : List ScriptText) → ReadsPage (ground H0) (ground H1) page scripts → scripts ≡ [] → H0 ≡ start (default_limit Weight) start_moment → Loads page H1
+pub loaded : (H0 H1 : Heap) (page : List ℕ) (scripts : List ScriptText) → ReadsPage (ground H0 uncounted) (ground H1 uncounted) page scripts → scripts ≡ [] → H0 ≡ start (default_limit Weight) start_moment → Loads page H1
 loaded H0 H1 page scripts r none e = record {
   trees = r.trees;
   reads = subst (λ (some : List ScriptText). IsPage page r.trees some) none r.page;

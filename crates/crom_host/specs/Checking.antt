@@ -1,7 +1,7 @@
 -- What checking a page says.
 use Rattle.std.specs.Prelude.{◌≡◌, ◌⊎◌, ℕ, List, [], ◌++◌, length, take, codes, decimal, Option, Result, Ok, Err, ⊤}
 use Rattle.page_units.specs.Outside.{after, Rose}
-use Rattle.dom_tree.specs.Trees.{Trees}
+use Rattle.tree_shape.specs.Trees.{Trees}
 use Rattle.page_reader.specs.declared.fault.PageFault.TheVariants as fault
 use Rattle.page_reader.specs.declared.page.ScriptText.{ScriptText}
 use Rattle.page_reader.specs.Page.{IsPage, IsPageFault}

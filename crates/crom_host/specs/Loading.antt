@@ -2,7 +2,7 @@
 use Rattle.std.specs.Prelude.{◌≢◌, List, [], ℕ, Result, Ok, Err, ⊤}
 use Rattle.cell_places.specs.Sound.{IsSound}
 use Rattle.cell_heap.specs.Base.{heap_of}
-use Rattle.dom_tree.specs.Trees.{Trees}
+use Rattle.tree_shape.specs.Trees.{Trees}
 use Rattle.page_reader.specs.declared.fault.PageFault.{PageFault}
 use Rattle.page_reader.specs.declared.fault.PageFault.TheVariants.{Rule, NoMemory}
 use Rattle.page_reader.specs.declared.page.ScriptText.{ScriptText}

@@ -8,8 +8,8 @@ use Rattle.page_units.specs.Limits.{default_limit}
 use Rattle.cell_places.specs.Heap.{Heap}
 use Rattle.cell_places.specs.Acts.{Act}
 use Rattle.cell_places.specs.Start.{start, document_cell}
-use Rattle.dom_tree.specs.Trees.{Trees}
-use Rattle.dom_tree.specs.Holds.{IsTreeText}
+use Rattle.tree_shape.specs.Trees.{Trees}
+use Rattle.tree_writer.specs.NodeText.{IsTreeText}
 use Rattle.dom_tree.specs.Ids.{Finds}
 use Rattle.page_reader.specs.Page.{IsPage}
 use Rattle.page_reader.specs.Planting.{planted}

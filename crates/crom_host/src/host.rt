@@ -4,7 +4,7 @@ ghost use Rattle.cell_places.specs.Kinds.{is_node};
 ghost use Rattle.cell_places.specs.Heap.{kind_at};
 ghost use Rattle.cell_places.specs.Sound.{IsSound};
 ghost use Rattle.cell_heap.specs.Base.{heap_of};
-ghost use Rattle.dom_tree.specs.Trees.{Trees};
+ghost use Rattle.tree_shape.specs.Trees.{Trees};
 ghost use Rattle.page_reader.specs.Page.{IsPage, IsPageFault};
 ghost use Rattle.page_reader.specs.Reading.{OnlyFault};
 ghost use Rattle.wire_replies.specs.ReplyBytes.{IsReply};

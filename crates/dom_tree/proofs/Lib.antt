@@ -1,13 +1,4 @@
-pub mod Appending
-pub mod Asking
-pub mod AttributeTexts
-pub mod Depths
 pub mod Finding
-pub mod Long
 pub mod NodeSearch
-pub mod Nodes
-pub mod OneText
 pub mod Searching
-pub mod SoundElements
-pub mod SoundTrees
-pub mod Steps
+pub mod SoundOrder

@@ -3,18 +3,17 @@ ghost use Rattle.std.specs.Prelude.{◌≡◌, ℕ, List, [], ◌∷◌, Option,
 ghost use Rattle.page_units.specs.declared.value.CellName.{CellName};
 ghost use Rattle.cell_places.specs.Kinds as kinds;
 ghost use Rattle.cell_places.specs.Heap.{kind_at};
-ghost use Rattle.cell_places.specs.Acts.{Act};
+ghost use Rattle.cell_places.specs.Acts.{Act, Fits};
 ghost use Rattle.cell_places.specs.View.{heap, run};
 ghost use Rattle.cell_places.specs.Rooted.{Still};
 ghost use Rattle.cell_places.specs.Sound.{IsSound};
-ghost use Rattle.dom_tree.specs.Ids.{Elements, Finds};
-ghost use Rattle.dom_tree.specs.Ids as spec;
+ghost use Rattle.dom_tree.specs.Ids.{InTreeOrder, Finds};
 ghost use Rattle.dom_tree.specs.Searched.{CanSearch, Searched};
 
-use crate::answers::{answer_at, cells_of};
 use cell_places::{Answer, CellKind, Cells, DOCUMENT, Slot};
 use page_units::{CellName, NoMemory, Text, Value};
 use std::alloc::Global;
+use tree_shape::answer_at;
 
 /// The first element in tree order with an id, and how many elements were asked for theirs.
 #[derive(Clone, Copy)]
@@ -26,14 +25,15 @@ pub struct Found {
 }
 
 /// Finds the first element in tree order that has this id (WHATWG DOM, 4.2.4), where the empty id
-/// is no element's and nothing is asked for it. It asks each element for its id and then for its
-/// children, up to the one that is found, and changes nothing. Want of memory leaves the heap as it
-/// was; over a layer, some of the reads may be told by then.
+/// is no element's and nothing is done for it. It looks at each node, and asks each element for its
+/// id and then for its children, up to the one that is found, and changes nothing. Out of memory,
+/// the heap is as it was; over a layer, some of the reads may have been recorded.
 pub fn element_by_id<C: Cells>(alloc: Global, cells: &mut C, id: &Text) -> Result<Found, NoMemory>
     requires sound { (codes : ℕ) × IsSound codes (heap (C.seen cells.old)) }
     ensures finds { IfOk result (λ found. (acts : List Act)
         × Finds (heap (C.seen cells.old)) id.now found.cell found.visited acts
-        × (C.seen cells.new ≡ run (C.seen cells.old) acts)) }
+        × (C.seen cells.new ≡ run (C.seen cells.old) acts)
+        × Fits (heap (C.seen cells.old)) acts) }
     // One answer for an id.
     ensures one { (cell cell' : Option CellName) (count count' : ℕ) (acts acts' : List Act)
         → Finds (heap (C.seen cells.old)) id.now cell count acts
@@ -53,7 +53,7 @@ pub fn element_by_id<C: Cells>(alloc: Global, cells: &mut C, id: &Text) -> Resul
     let attribute = id_name(alloc)?;
     let answer = answer_at(cells, DOCUMENT, Slot::Children)?;
     let mut visited = 0;
-    let cell = find_among(cells, cells_of(&answer), &attribute, id, &mut visited)?;
+    let cell = find_among(cells, answer.cells(), &attribute, id, &mut visited)?;
     Ok(Found { cell, visited })
 }
 
@@ -76,9 +76,10 @@ fn find_among<C: Cells>(
 ) -> Result<Option<CellName>, NoMemory>
     requires attribute { attribute.now ≡ codes "id" }
     requires ready { CanSearch (heap (C.seen cells.old)) nodes.now visited.old }
-    ensures found { IfOk result (λ cell. (elements : List CellName)
-        → Elements (heap (C.seen cells.old)) nodes.now elements
-        → Searched (heap (C.seen cells.old)) id.now (C.seen cells.old) (C.seen cells.new) elements cell visited.old visited.new) }
+    ensures found { IfOk result (λ cell. (order : List CellName)
+        → InTreeOrder (heap (C.seen cells.old)) nodes.now order
+        → Searched (heap (C.seen cells.old)) id.now (C.seen cells.old) (C.seen cells.new)
+        order cell visited.old visited.new) }
     ensures still { Still (C.seen cells.old) (C.seen cells.new) }
 {
     for node in nodes {
@@ -101,37 +102,21 @@ fn find_at<C: Cells>(
 ) -> Result<Option<CellName>, NoMemory>
     requires attribute { attribute.now ≡ codes "id" }
     requires ready { CanSearch (heap (C.seen cells.old)) (node ∷ []) visited.old }
-    ensures found { IfOk result (λ cell. (elements : List CellName)
-        → Elements (heap (C.seen cells.old)) (node ∷ []) elements
-        → Searched (heap (C.seen cells.old)) id.now (C.seen cells.old) (C.seen cells.new) elements cell visited.old visited.new) }
+    ensures found { IfOk result (λ cell. (order : List CellName)
+        → InTreeOrder (heap (C.seen cells.old)) (node ∷ []) order
+        → Searched (heap (C.seen cells.old)) id.now (C.seen cells.old) (C.seen cells.new)
+        order cell visited.old visited.new) }
     ensures still { Still (C.seen cells.old) (C.seen cells.new) }
 {
-    if !is_element(cells.kind_of(node)) {
+    if !cells.kind_of(node).is_element() {
         return Ok(None);
     }
     let name = attribute.clone()?;
     let answer = answer_at(cells, node, Slot::Attr(name))?;
     *visited += 1;
-    if is_text(&answer, id) {
+    if answer.is_text(id) {
         return Ok(Some(node));
     }
     let answer = answer_at(cells, node, Slot::Children)?;
-    find_among(cells, cells_of(&answer), attribute, id, visited)
-}
-
-/// Whether a cell of this kind is an element.
-fn is_element(kind: &CellKind) -> bool
-    ensures { result ≡ kinds.is_element kind.now }
-{
-    matches!(kind, CellKind::Element(_))
-}
-
-/// Whether the answer is this text.
-fn is_text(answer: &Answer, text: &Text) -> bool
-    ensures { result ≡ spec.is_text text.now answer.now }
-{
-    match answer {
-        Answer::One(Value::Str(held)) => held == text,
-        _ => false,
-    }
+    find_among(cells, answer.cells(), attribute, id, visited)
 }

@@ -1,14 +1,9 @@
-//! Nodes over any heap of cells: the trees that stand there, and their text.
+//! Nodes over any heap of cells: elements by their id, and, handed on from the crates below, the
+//! text of trees and the names of elements that have a rule of their own.
 #![tactic(auto)]
 
-mod answers;
-mod append;
-mod attributes;
-mod escape;
 pub mod ids;
-pub mod names;
-pub mod serialize;
 
 pub use ids::{Found, element_by_id};
-pub use names::{is_raw, is_void};
-pub use serialize::dom_text;
+pub use tree_shape::{is_raw, is_void};
+pub use tree_writer::dom_text;

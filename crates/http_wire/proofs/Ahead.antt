@@ -8,6 +8,7 @@ use Rattle.page_units.specs.Outside.{before}
 use Rattle.httparse.specs.Grammar.{RequestHead, print_request, HasNoRequest, NeverHasRequest, MayBecomeRequest}
 use Rattle.httparse.specs.Spans.{span_bytes}
 use Rattle.httparse.proofs.GrammarLemmas.{ReadsRequest-append}
+use Rattle.http_wire.specs.Bounds.{head_bytes}
 use Rattle.http_wire.specs.declared.held.Whole.{Whole}
 use Rattle.wire_asks.specs.declared.asked.Refusal.{Refusal}
 use Rattle.http_wire.specs.Messages.{Message, BeginsHead, BeginsMessage, IsMessage}
@@ -28,12 +29,12 @@ before_before (Some rest) xs ys = ap Some (sym (append_assoc xs ys rest))
 -- more bytes only go on with what is looked at
 look_more : (held rest : List ℕ) → (further : List ℕ) × (look (held ++ rest) ≡ look held ++ further)
 look_more held rest =
-    elim (cases_lt (length held) 16384) [
+    elim (cases_lt (length held) head_bytes) [
       | inl few ↦
-          let n = 16384 - length held in
-          let whole : 16384 ≡ length held + n = omega (arith, few) in
-          (take n rest, ap (λ (k : ℕ). take k (held ++ rest)) whole ∙ take-append-add held rest n ∙ ap (λ (z : List ℕ). z ++ take n rest) (sym (take_all 16384 held (omega (arith, few)))))
-      | inr many ↦ ([], take-append-le 16384 held rest many ∙ sym (append-nil (take 16384 held)))
+          let n = head_bytes - length held in
+          let whole : head_bytes ≡ length held + n = omega (arith, few) in
+          (take n rest, ap (λ (k : ℕ). take k (held ++ rest)) whole ∙ take-append-add held rest n ∙ ap (λ (z : List ℕ). z ++ take n rest) (sym (take_all head_bytes held (omega (arith, few)))))
+      | inr many ↦ ([], take-append-le head_bytes held rest many ∙ sym (append-nil (take head_bytes held)))
     ]
 
 -- what never becomes a head does not by the bytes that came
@@ -71,7 +72,7 @@ refuses_more held rest refusal (bad_head _ never) =
     let on = look_more held rest in
     bad_head (held ++ rest) (subst NeverHasRequest (sym on.1) (never_more (look held) on.0 never))
 refuses_more held rest refusal (long_head _ many none open_yet) =
-    let same : look (held ++ rest) ≡ look held = take-append-le 16384 held rest many in
+    let same : look (held ++ rest) ≡ look held = take-append-le head_bytes held rest many in
     long_head (held ++ rest) (omega (arith, many, length-append held rest)) (subst HasNoRequest (sym same) none) (subst MayBecomeRequest (sym same) open_yet)
 refuses_more held rest refusal (no_body _ h behind _ head told) = no_body (held ++ rest) h (behind ++ rest) refusal (head_more held rest h behind head) told
 

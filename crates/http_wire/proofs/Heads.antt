@@ -10,6 +10,7 @@ use Rattle.httparse.specs.Grammar.{RequestHead, print_request, ReadsRequest, Has
 use Rattle.httparse.specs.Spans.{span_bytes, header_bytes, IsRequestAt, IsRequestOf, IsRequestWithin}
 use Rattle.httparse.proofs.GrammarLemmas.{ReadsRequest-append}
 use Rattle.wire_asks.specs.declared.asked.Refusal.{Refusal}
+use Rattle.http_wire.specs.Bounds.{head_bytes}
 use Rattle.http_wire.specs.declared.held.Whole.{Whole}
 use Rattle.http_wire.specs.Fields.{body_length, closes}
 use Rattle.http_wire.specs.Messages.{BeginsHead, length_behind}
@@ -17,13 +18,13 @@ use Rattle.http_wire.specs.Outcomes.{look, Refuses, IsUnfinished, no_body, in_bo
 use Rattle.http_wire.specs.Held.{WholeIs}
 
 -- the first bytes are those in which a head is looked for
-pub look_is : (bytes : List ℕ) (n : ℕ) → n ≡ min (length bytes) 16384 → take n bytes ≡ look bytes
+pub look_is : (bytes : List ℕ) (n : ℕ) → n ≡ min (length bytes) head_bytes → take n bytes ≡ look bytes
 look_is bytes n e =
-    elim (cases_lt (length bytes) 16384) [
+    elim (cases_lt (length bytes) head_bytes) [
       | inl few ↦
           let all : n ≡ length bytes = omega (arith, e, few) in
-          ap (λ (k : ℕ). take k bytes) all ∙ take_all (length bytes) bytes (omega arith) ∙ sym (take_all 16384 bytes (omega (arith, few)))
-      | inr many ↦ let whole : n ≡ 16384 = omega (arith, e, many) in ap (λ (k : ℕ). take k bytes) whole
+          ap (λ (k : ℕ). take k bytes) all ∙ take_all (length bytes) bytes (omega arith) ∙ sym (take_all head_bytes bytes (omega (arith, few)))
+      | inr many ↦ let whole : n ≡ head_bytes = omega (arith, e, many) in ap (λ (k : ℕ). take k bytes) whole
     ]
 
 -- a range within the first bytes is the same range of all
@@ -39,7 +40,7 @@ range_within seen more start end fits =
     ]
 
 -- a head of the first bytes stands at the front of all
-pub head_stands : (seen more bytes : List ℕ) (room : List HeaderSpan) (spans : RequestSpans) (h : RequestHead) → IsRequestAt seen room spans h → spans.len ≤ length seen → length seen ≤ 16384 → bytes ≡ seen ++ more → BeginsHead bytes h (drop spans.len bytes)
+pub head_stands : (seen more bytes : List ℕ) (room : List HeaderSpan) (spans : RequestSpans) (h : RequestHead) → IsRequestAt seen room spans h → spans.len ≤ length seen → length seen ≤ head_bytes → bytes ≡ seen ++ more → BeginsHead bytes h (drop spans.len bytes)
 head_stands seen more bytes room spans h at fits few e =
     let back : drop spans.len bytes ≡ drop spans.len seen ++ more = ap (drop spans.len) e ∙ drop-append-le spans.len seen more fits in
     let reads : ReadsRequest (seen ++ more) h (drop spans.len seen ++ more) = ReadsRequest-append seen h _ more at.reads in
@@ -56,21 +57,21 @@ length_told seen room spans h method told at is e =
     sym (e ∙ ap (λ (z : List ℕ). body_length z (map (header_bytes seen) (take spans.headers room))) same ∙ ap (body_length h.method) at.fields)
 
 -- a head without a length is refused
-pub refused_behind : (bytes seen : List ℕ) (room : List HeaderSpan) (spans : RequestSpans) (method : List ℕ) (refusal : Refusal) → ((more : List ℕ) × (bytes ≡ seen ++ more)) → length seen ≤ 16384 → IsRequestOf seen room spans → IsRequestWithin seen room spans
+pub refused_behind : (bytes seen : List ℕ) (room : List HeaderSpan) (spans : RequestSpans) (method : List ℕ) (refusal : Refusal) → ((more : List ℕ) × (bytes ≡ seen ++ more)) → length seen ≤ head_bytes → IsRequestOf seen room spans → IsRequestWithin seen room spans
     → method ≡ span_bytes seen spans.method → Err refusal ≡ body_length method (map (header_bytes seen) (take spans.headers room)) → Refuses bytes refusal
 refused_behind bytes seen room spans method refusal front few whole within is told =
     no_body bytes whole.0 _ refusal (head_stands seen front.0 bytes room spans whole.0 whole.1 within.section.len_fits few front.1)
     (length_told seen room spans whole.0 method (Err refusal) whole.1 is told)
 
 -- a body that isn't whole is unfinished
-pub unfinished_behind : (bytes seen : List ℕ) (room : List HeaderSpan) (spans : RequestSpans) (method : List ℕ) (count : ℕ) → ((more : List ℕ) × (bytes ≡ seen ++ more)) → length seen ≤ 16384 → IsRequestOf seen room spans → IsRequestWithin seen room spans
+pub unfinished_behind : (bytes seen : List ℕ) (room : List HeaderSpan) (spans : RequestSpans) (method : List ℕ) (count : ℕ) → ((more : List ℕ) × (bytes ≡ seen ++ more)) → length seen ≤ head_bytes → IsRequestOf seen room spans → IsRequestWithin seen room spans
     → method ≡ span_bytes seen spans.method → Ok count ≡ body_length method (map (header_bytes seen) (take spans.headers room)) → length bytes - spans.len < count → IsUnfinished bytes
 unfinished_behind bytes seen room spans method count front few whole within is told short =
     in_body bytes whole.0 (drop spans.len bytes) count (head_stands seen front.0 bytes room spans whole.0 whole.1 within.section.len_fits few front.1)
     (length_told seen room spans whole.0 method (Ok count) whole.1 is told) (omega (arith, length-drop spans.len bytes, short))
 
 -- a request whose body is whole
-pub whole_behind : (bytes seen : List ℕ) (room : List HeaderSpan) (w : Whole) (method : List ℕ) → ((more : List ℕ) × (bytes ≡ seen ++ more)) → length seen ≤ 16384 → IsRequestOf seen room w.spans → IsRequestWithin seen room w.spans
+pub whole_behind : (bytes seen : List ℕ) (room : List HeaderSpan) (w : Whole) (method : List ℕ) → ((more : List ℕ) × (bytes ≡ seen ++ more)) → length seen ≤ head_bytes → IsRequestOf seen room w.spans → IsRequestWithin seen room w.spans
     → method ≡ span_bytes seen w.spans.method → Ok w.body_length ≡ body_length method (map (header_bytes seen) (take w.spans.headers room)) → w.body_length ≤ length bytes - w.spans.len
     → w.close ≡ closes w.spans.version (map (header_bytes seen) (take w.spans.headers room)) → WholeIs bytes w
 whole_behind bytes seen room w method front few whole within is told fits close =
@@ -95,19 +96,19 @@ whole_behind bytes seen room w method front few whole within is told fits close 
     }
 
 -- what is looked at never becomes a head
-pub bad_look : (bytes : List ℕ) (n : ℕ) → n ≡ min (length bytes) 16384 → NeverHasRequest (take n bytes) → NeverHasRequest (look bytes)
+pub bad_look : (bytes : List ℕ) (n : ℕ) → n ≡ min (length bytes) head_bytes → NeverHasRequest (take n bytes) → NeverHasRequest (look bytes)
 bad_look bytes n e never = subst NeverHasRequest (look_is bytes n e) never
 
 -- what is looked at is no head yet
-pub open_look : (bytes : List ℕ) (n : ℕ) → n ≡ min (length bytes) 16384 → HasNoRequest (take n bytes) × MayBecomeRequest (take n bytes) → HasNoRequest (look bytes) × MayBecomeRequest (look bytes)
+pub open_look : (bytes : List ℕ) (n : ℕ) → n ≡ min (length bytes) head_bytes → HasNoRequest (take n bytes) × MayBecomeRequest (take n bytes) → HasNoRequest (look bytes) × MayBecomeRequest (look bytes)
 open_look bytes n e none = (subst HasNoRequest (look_is bytes n e) none.0, subst MayBecomeRequest (look_is bytes n e) none.1)
 
 -- a look at fewer bytes sees them all
-pub look_all : (bytes : List ℕ) → length bytes < 16384 → look bytes ≡ bytes
-look_all bytes few = take_all 16384 bytes (omega (arith, few))
+pub look_all : (bytes : List ℕ) → length bytes < head_bytes → look bytes ≡ bytes
+look_all bytes few = take_all head_bytes bytes (omega (arith, few))
 
 -- a head that isn't whole yet, in fewer bytes than a head may have
-pub unfinished_head : (bytes : List ℕ) (n : ℕ) → n ≡ min (length bytes) 16384 → length bytes < 16384 → HasNoRequest (take n bytes) × MayBecomeRequest (take n bytes) → IsUnfinished bytes
+pub unfinished_head : (bytes : List ℕ) (n : ℕ) → n ≡ min (length bytes) head_bytes → length bytes < head_bytes → HasNoRequest (take n bytes) × MayBecomeRequest (take n bytes) → IsUnfinished bytes
 unfinished_head bytes n e few none =
     let open_all = open_look bytes n e none in
     in_head bytes few (subst HasNoRequest (look_all bytes few) open_all.0) (subst MayBecomeRequest (look_all bytes few) open_all.1)

@@ -1,4 +1,5 @@
 -- The parts of a list with commas, one byte after another.
+use Prim.Native.Char.{code}
 use Rattle.std.proofs.Common.{◌≡◌, ◌≢◌, ℕ, ◌+◌, ◌-◌, ◌<◌, ◌≤◌, Bool, false, List, [], ◌∷◌, ◌++◌, length, get_or, drop, slice_range, refl, sym, ap, ◌∙◌, arith, eq-eqb, ne_eqb, length-drop, get_or-drop}
 use Rattle.std.proofs.lemmas.Bool.{cond-true, cond-false}
 use Rattle.std.proofs.lemmas.List.{drop_more, take_more}
@@ -19,15 +20,15 @@ slice_none : (value : List ℕ) (at : ℕ) → slice_range value at at ≡ []
 slice_none value at = let none : at - at ≡ 0 = omega arith in rw none
 
 -- the parts at a comma
-comma : (part rest : List ℕ) (byte : ℕ) → byte ≡ 44 → parts_from part (byte ∷ rest) ≡ part ∷ parts_from [] rest
-comma part rest byte e = cond-true _ _ _ (eq-eqb byte 44 e)
+comma : (part rest : List ℕ) (byte : ℕ) → byte ≡ code "," → parts_from part (byte ∷ rest) ≡ part ∷ parts_from [] rest
+comma part rest byte e = cond-true _ _ _ (eq-eqb byte (code ",") e)
 
 -- the parts at another byte
-no_comma : (part rest : List ℕ) (byte : ℕ) → byte ≢ 44 → parts_from part (byte ∷ rest) ≡ parts_from (part ++ byte ∷ []) rest
-no_comma part rest byte e = cond-false _ _ _ (ne_eqb byte 44 e)
+no_comma : (part rest : List ℕ) (byte : ℕ) → byte ≢ code "," → parts_from part (byte ∷ rest) ≡ parts_from (part ++ byte ∷ []) rest
+no_comma part rest byte e = cond-false _ _ _ (ne_eqb byte (code ",") e)
 
 -- a part that isn't the option is passed at its comma
-pub comma_passed : (value : List ℕ) (start at : ℕ) (answer : Bool) → at < length value → get_or value at 0 ≡ 44 → false ≡ is_close (slice_range value start at)
+pub comma_passed : (value : List ℕ) (start at : ℕ) (answer : Bool) → at < length value → get_or value at 0 ≡ code "," → false ≡ is_close (slice_range value start at)
     → list_any is_close (parts_from (slice_range value start at) (drop at value)) ≡ answer
     → list_any is_close (parts_from (slice_range value (at + 1) (at + 1)) (drop (at + 1) value)) ≡ answer
 comma_passed value start at answer inside is other before =
@@ -38,7 +39,7 @@ comma_passed value start at answer inside is other before =
     rw (slice_none value (at + 1)) (sym left ∙ ap (list_any is_close) (sym parts) ∙ before)
 
 -- another byte belongs to the part
-pub byte_added : (value : List ℕ) (start at : ℕ) (answer : Bool) → start ≤ at → at < length value → get_or value at 0 ≢ 44
+pub byte_added : (value : List ℕ) (start at : ℕ) (answer : Bool) → start ≤ at → at < length value → get_or value at 0 ≢ code ","
     → list_any is_close (parts_from (slice_range value start at) (drop at value)) ≡ answer
     → list_any is_close (parts_from (slice_range value start (at + 1)) (drop (at + 1) value)) ≡ answer
 byte_added value start at answer ordered inside other before =

@@ -1,4 +1,5 @@
 -- Each field line has at least three bytes, so short bytes never hold too many fields.
+use Prim.Native.Char.{code}
 use Rattle.std.proofs.Common.{◌≡◌, ℕ, ◌+◌, ◌*◌, ◌<◌, ◌≤◌, List, [], ◌∷◌, ◌++◌, length, arith, length-append, ap}
 use Rattle.std.specs.Prelude.{All}
 use Rattle.std.specs.List.{flat_map}
@@ -15,7 +16,7 @@ tail_length : (a b : List ℕ) → length b ≤ length (a ++ b)
 tail_length a b = omega (arith, length-append a b)
 
 -- a name, a byte, the rest and an end
-line_length : (name raw end : List ℕ) → 0 < length name → 1 ≤ length end → 3 ≤ length (name ++ 58 ∷ raw ++ end)
+line_length : (name raw end : List ℕ) → 0 < length name → 1 ≤ length end → 3 ≤ length (name ++ code ":" ∷ raw ++ end)
 line_length name raw end a b = simp length-append (omega (arith, a, b))
 
 pub field_length : (f : Field) → IsField f → 3 ≤ length (print_field f)
@@ -33,7 +34,7 @@ section_length fs last x =
     omega (arith, fields_length fs x, end_length last, length-append (flat_map print_field fs) (print_end last))
 
 -- six parts and the bytes between them
-parts_length : (a b c d e f : List ℕ) (n : ℕ) → n ≤ length f → n ≤ length (a ++ b ++ 32 ∷ c ++ 32 ∷ d ++ e ++ f)
+parts_length : (a b c d e f : List ℕ) (n : ℕ) → n ≤ length f → n ≤ length (a ++ b ++ code " " ∷ c ++ code " " ∷ d ++ e ++ f)
 parts_length a b c d e f n x = simp length-append (omega (arith, x))
 
 pub head_length : (h : RequestHead) → All IsField h.fields → 3 * length h.fields + 1 ≤ length (print_request h)
@@ -48,7 +49,7 @@ never_exceeds room buf x =
     let e : buf ≡ front ++ rest = x.2 in
     let h = x.3 in
     let more : room < length h.fields = x.5 in
-    let reads : front ++ 10 ∷ [] ≡ print_request h ++ [] = x.4.1 in
+    let reads : front ++ code "\n" ∷ [] ≡ print_request h ++ [] = x.4.1 in
     omega (
       arith,
       more,
@@ -56,6 +57,6 @@ never_exceeds room buf x =
       ap length reads,
       ap length e,
       length-append front rest,
-      length-append front (10 ∷ []),
+      length-append front (code "\n" ∷ []),
       length-append (print_request h) [],
     )

@@ -1,6 +1,7 @@
 -- The requests of a stream are one list, and it ends in one way, but for a head that ends inside its target and that no
 -- bytes can complete.
-use Rattle.std.proofs.Common.{◌≡◌, ◌≢◌, ◌+◌, ◌-◌, ◌⊎◌, ℕ, ◌≤◌, List, [], ◌∷◌, ◌++◌, length, take, drop, refl, ap, sym, subst, ◌∙◌, arith, inl, inr, length-append}
+use Prim.Native.Char.{code}
+use Rattle.std.proofs.Common.{◌≡◌, ◌≢◌, ◌+◌, ◌-◌, ◌⊎◌, ℕ, ◌≤◌, List, [], ◌∷◌, ◌++◌, length, codes, take, drop, refl, ap, sym, subst, ◌∙◌, arith, inl, inr, length-append}
 use Rattle.std.proofs.lemmas.List.{append-nil, take_at, drop_at, take_all}
 use Rattle.std.proofs.Math.Seq.{take-append-add}
 use Rattle.std.specs.Prelude.{Result, Ok, Err}
@@ -9,6 +10,7 @@ use Rattle.httparse.proofs.GrammarLemmas.{request_unique}
 use Rattle.httparse.proofs.OnLiterals.{httparse_on_literals}
 use Rattle.std.proofs.lemmas.List.Elements.{All-nil, All-cons}
 use Rattle.std.specs.Prelude.{IsTrue, ◌*◌}
+use Rattle.http_wire.specs.Bounds.{head_bytes}
 use Rattle.http_wire.proofs.Room.{head_length}
 use Rattle.wire_asks.specs.declared.asked.Refusal.{Refusal}
 use Rattle.http_wire.specs.Messages.{Message, BeginsHead, BeginsMessage, length_behind, fields_of}
@@ -23,10 +25,10 @@ same_head bytes h k behind other x y = request_unique bytes h k behind other x.r
 -- a head at the front is seen whole
 head_seen : (bytes : List ℕ) (h : RequestHead) (behind : List ℕ) → BeginsHead bytes h behind → (rest : List ℕ) × ReadsRequest (look bytes) h rest
 head_seen bytes h behind head =
-    let n = 16384 - length (print_request h) in
-    let whole : 16384 ≡ length (print_request h) + n = omega (arith, head.fits) in (
+    let n = head_bytes - length (print_request h) in
+    let whole : head_bytes ≡ length (print_request h) + n = omega (arith, head.fits) in (
       take n behind,
-      (head.reads.0, ap (take 16384) head.reads.1 ∙ ap (λ (k : ℕ). take k (print_request h ++ behind)) whole ∙ take-append-add (print_request h) behind n),
+      (head.reads.0, ap (take head_bytes) head.reads.1 ∙ ap (λ (k : ℕ). take k (print_request h ++ behind)) whole ∙ take-append-add (print_request h) behind n),
     )
 
 -- where a head stands at the front, what is looked at has one
@@ -81,7 +83,7 @@ refusal_unique bytes a b (no_body _ h behind _ head told) (no_body _ k other _ h
 -- an unfinished request isn't refused, but for the open choice
 unfinished_or_refused : (bytes : List ℕ) (a : Refusal) → IsUnfinished bytes → Refuses bytes a → EndsInTarget (look bytes)
 unfinished_or_refused bytes a (in_head _ few none may) (bad_head _ never) =
-    let all : bytes ≡ look bytes = sym (take_all 16384 bytes (omega (arith, few))) in
+    let all : bytes ≡ look bytes = sym (take_all head_bytes bytes (omega (arith, few))) in
     never_may (look bytes) never (subst MayBecomeRequest all may)
 unfinished_or_refused bytes a (in_head _ few none may) (long_head _ many none2 may2) = absurd (omega (arith, few, many))
 unfinished_or_refused bytes a (in_head _ few none may) (no_body _ h behind _ head told) = absurd (none h behind head.reads)
@@ -111,15 +113,15 @@ whole_or_unfinished bytes rest m x (in_body _ k other count head told short) =
 
 -- the shortest kind of head
 small_head : RequestHead
-small_head = record { blank = []; method = 71 ∷ []; target = 47 ∷ []; minor = 1; line_end = lf; fields = []; last = lf }
+small_head = record { blank = []; method = codes "G"; target = codes "/"; minor = 1; line_end = lf; fields = []; last = lf }
 
 -- it is a head
 small_is_head : IsRequestHead small_head
 unfolding small_head httparse_on_literals lib.Utf8.encode
 small_is_head = record {
-  method = (omega arith, All-cons (λ b. IsTrue (is_token_byte b)) 71 [] refl (All-nil (λ b. IsTrue (is_token_byte b))));
-  target = (omega arith, All-cons (λ b. IsTrue (is_uri_byte b)) 47 [] refl (All-nil (λ b. IsTrue (is_uri_byte b))));
-  target_text = (47 ∷ [], (refl, refl));
+  method = (omega arith, All-cons (λ b. IsTrue (is_token_byte b)) (code "G") [] refl (All-nil (λ b. IsTrue (is_token_byte b))));
+  target = (omega arith, All-cons (λ b. IsTrue (is_uri_byte b)) (code "/") [] refl (All-nil (λ b. IsTrue (is_uri_byte b))));
+  target_text = (codes "/", (refl, refl));
   minor = omega arith;
   fields = All-nil IsField;
 }

@@ -1,14 +1,12 @@
 -- What comes of whole requests.
-use Rattle.std.proofs.Common.{◌≡◌, ℕ, List, [], ◌∷◌, ◌++◌, Option, Some, Ok, Err, refl, sym, ap, subst, ◌∙◌}
+use Rattle.std.proofs.Common.{◌≡◌, ℕ, List, [], ◌∷◌, Option, Ok, Err, refl, sym, ap, subst}
 use Rattle.std.specs.Prelude.{Result}
 use Rattle.std.specs.declared.alloc.AllocError.{AllocError}
-use Rattle.wire_asks.specs.declared.asked.Refusal.{Refusal}
 use Rattle.http_wire.specs.declared.wire.Incoming.{Incoming}
 use Rattle.http_wire.specs.declared.wire.Next.{Next}
 use Rattle.http_wire.specs.declared.wire.Next.TheVariants as next
-use Rattle.http_wire.specs.Messages.{Message, BeginsMessage}
-use Rattle.http_wire.specs.Outcomes.{Refuses}
-use Rattle.http_wire.specs.Requests.{Ending, ended, truncated, RequestsOf, more, stop}
+use Rattle.http_wire.specs.Messages.{Message}
+use Rattle.http_wire.specs.Requests.{ended, truncated, RequestsOf, more, stop}
 use Rattle.http_wire.specs.Incoming.{incoming_of, refused_as, Comes}
 use Rattle.http_wire.specs.Incoming as i
 use Rattle.http_wire.specs.Wired.{NextStream, NextWhole}

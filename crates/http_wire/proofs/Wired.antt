@@ -1,20 +1,17 @@
 -- From what is framed to what is asked.
-use Rattle.std.proofs.Common.{◌≡◌, ◌⊎◌, ℕ, List, [], ◌++◌, Option, Some, Ok, inl, inr, refl, sym, ap, subst, ◌∙◌}
-use Rattle.std.proofs.lemmas.List.{append-nil}
+use Rattle.std.proofs.Common.{◌≡◌, ℕ, List, [], ◌++◌, Option, Some, Ok, sym, subst, ◌∙◌}
 use Rattle.page_units.specs.Outside.{before}
-use Rattle.page_units.specs.declared.source.Took.{Took}
 use Rattle.wire_asks.specs.declared.asked.Refusal.{Refusal}
 use Rattle.http_wire.specs.declared.request.Request.{Request}
 use Rattle.http_wire.specs.declared.request.Framed.TheVariants as framed
 use Rattle.http_wire.specs.declared.wire.Incoming.{Incoming}
 use Rattle.http_wire.specs.declared.wire.Next.TheVariants as next
-use Rattle.http_wire.specs.Messages.{Message, message_of, IsMessage, BeginsMessage}
+use Rattle.http_wire.specs.Messages.{message_of, BeginsMessage}
 use Rattle.http_wire.specs.Outcomes.{Refuses}
 use Rattle.http_wire.specs.Answers.{FrameSays}
-use Rattle.http_wire.specs.Reading.{FrameReads}
 use Rattle.http_wire.specs.Incoming.{incoming_of, refused_as, Comes}
 use Rattle.http_wire.specs.Incoming as i
-use Rattle.http_wire.specs.Wired.{NextSays, NextStream, NextReads}
+use Rattle.http_wire.specs.Wired.{NextStream}
 use Rattle.http_wire.proofs.Ahead.{before_some, message_more, refuses_more}
 
 -- what is told behind a front is told

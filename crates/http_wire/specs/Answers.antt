@@ -4,6 +4,7 @@ use Rattle.std.specs.declared.alloc.AllocError.{AllocError}
 use Rattle.page_units.specs.Outside.{before, Rose}
 use Rattle.page_units.specs.declared.source.Took.{Took}
 use Rattle.page_units.specs.declared.source.Took.TheVariants as took
+use Rattle.http_wire.specs.Bounds.{read_bytes}
 use Rattle.http_wire.specs.declared.request.Framed.{Framed}
 use Rattle.http_wire.specs.declared.request.Framed.TheVariants as framed
 use Rattle.http_wire.specs.declared.request.Request.{Request}
@@ -45,7 +46,7 @@ TakenFrom held held' r = (front : List ℕ) × IsMessage front (message_of r) ×
 
 -- what a read says of the bytes held before and then
 abbrev pub ReadHolds : Result Took AllocError → List ℕ → List ℕ → Type 0
-ReadHolds (Ok (took.Got count)) held held' = (came : List ℕ) × (held' ≡ held ++ came) × (count ≡ length came) × (0 < length came) × (length came ≤ 4096)
+ReadHolds (Ok (took.Got count)) held held' = (came : List ℕ) × (held' ≡ held ++ came) × (count ≡ length came) × (0 < length came) × (length came ≤ read_bytes)
 ReadHolds (Ok took.End) held held' = held' ≡ held
 ReadHolds (Ok took.Failed) held held' = held' ≡ held
 ReadHolds (Err e) held held' = ⊤

@@ -1,4 +1,5 @@
 -- What the fields of a request's head say of its body and of the connection (RFC 9112, 6 and 9).
+use Prim.Native.Char.{code}
 use Rattle.std.specs.Prelude.{ℕ, ◌==◌, ◌&&◌, ◌||◌, Bool, if◌then◌else◌, nat_lt, nat_le, List, [], ◌∷◌, ◌++◌, length, codes, Result, Ok, Err}
 use Rattle.std.specs.List.{list_any, list_all}
 use Rattle.std.specs.Char.{is_ascii_digit}
@@ -7,6 +8,7 @@ use Rattle.std.specs.Str.Parse.{digits_value}
 use Rattle.httparse.specs.Grammar.{trim_ows}
 use Rattle.wire_asks.specs.declared.asked.Refusal.{Refusal}
 use Rattle.wire_asks.specs.declared.asked.Refusal.TheVariants.{LeftOut, BadLength, TooLarge, NoLength}
+use Rattle.http_wire.specs.Bounds.{length_digits, body_bytes}
 
 -- a field: its name, and its value without the white space around it
 abbrev pub NameValue : Type 0
@@ -21,11 +23,11 @@ values_named name (field ∷ fields) = if str_eq_ignore_ascii_case field.0 name 
 
 -- 1 to 19 digits
 abbrev pub is_length : List ℕ → Bool
-is_length value = nat_lt 0 (length value) && nat_le (length value) 19 && list_all is_ascii_digit value
+is_length value = nat_lt 0 (length value) && nat_le (length value) length_digits && list_all is_ascii_digit value
 
 -- the length that the value of a Content-Length field gives (RFC 9110, 8.6): 1 to 19 digits, at most 65,536
 abbrev pub length_in : List ℕ → Result ℕ Refusal
-length_in value = if is_length value then (if nat_le (digits_value 10 value) 65536 then Ok (digits_value 10 value) else Err TooLarge) else Err BadLength
+length_in value = if is_length value then (if nat_le (digits_value 10 value) body_bytes then Ok (digits_value 10 value) else Err TooLarge) else Err BadLength
 
 -- the length that the values of the Content-Length fields give: with none it is 0, and a POST needs one
 abbrev pub length_of : (method : List ℕ) → List (List ℕ) → Result ℕ Refusal
@@ -47,7 +49,7 @@ body_length method fields = length_unless_coded (values_named (codes "transfer-e
 -- the parts of a list between its commas (RFC 9110, 5.6.1), the first of which begins with these bytes
 abbrev pub parts_from : List ℕ → List ℕ → List (List ℕ)
 parts_from part [] = part ∷ []
-parts_from part (byte ∷ bytes) = if byte == 44 then part ∷ parts_from [] bytes else parts_from (part ++ byte ∷ []) bytes
+parts_from part (byte ∷ bytes) = if byte == code "," then part ∷ parts_from [] bytes else parts_from (part ++ byte ∷ []) bytes
 
 -- the part is the option `close`, in any ASCII case
 abbrev pub is_close : List ℕ → Bool

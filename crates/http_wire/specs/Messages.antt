@@ -2,6 +2,7 @@
 use Rattle.std.specs.Prelude.{◌≡◌, ℕ, ◌≤◌, Bool, List, [], ◌++◌, length, map, Result, Ok}
 use Rattle.httparse.specs.Grammar.{RequestHead, print_request, ReadsRequest}
 use Rattle.httparse.specs.Spans.{name_and_value}
+use Rattle.http_wire.specs.Bounds.{head_bytes}
 use Rattle.http_wire.specs.Fields.{NameValue, body_length, closes}
 use Rattle.wire_asks.specs.declared.asked.Refusal.{Refusal}
 use Rattle.http_wire.specs.declared.request.Request.{Request}
@@ -29,7 +30,7 @@ length_behind h = body_length h.method (fields_of h)
 -- a head of at most 16,384 bytes stands at the front
 pub record BeginsHead (bytes : List ℕ) (h : RequestHead) (behind : List ℕ) : Type 0 where
   pub reads : ReadsRequest bytes h behind
-  pub fits : length (print_request h) ≤ 16384
+  pub fits : length (print_request h) ≤ head_bytes
 
 -- the request m stands at the front, and behind it the rest
 pub record BeginsMessage (bytes : List ℕ) (m : Message) (rest : List ℕ) : Type 0 where

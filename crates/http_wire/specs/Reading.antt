@@ -3,6 +3,7 @@ use Rattle.std.specs.Prelude.{◌≡◌, ℕ, ◌<◌, ◌≤◌, ◌⊎◌, Lis
 use Rattle.std.specs.declared.alloc.AllocError.{AllocError}
 use Rattle.page_units.specs.declared.source.Took.{Took}
 use Rattle.page_units.specs.declared.source.Took.TheVariants as took
+use Rattle.http_wire.specs.Bounds.{read_bytes}
 use Rattle.http_wire.specs.declared.request.Framed.{Framed}
 use Rattle.http_wire.specs.declared.request.Framed.TheVariants as framed
 use Rattle.http_wire.specs.Messages.{message_of, IsMessage}
@@ -12,7 +13,7 @@ use Rattle.http_wire.specs.Outcomes.{IsUnfinished}
 -- the source before the first read to what is kept and the source after the last. A read gives 1 to 4,096 bytes.
 pub data ReadsOn {S : Type 0} (once : S → Took → S → Type 0) (held : List ℕ) (source : S) : List ℕ → S → Type 0 where
   none : ReadsOn once held source held source
-  more : (kept came : List ℕ) (mid new : S) → ReadsOn once held source kept mid → IsUnfinished kept → once mid (took.Got (length came)) new → 0 < length came → length came ≤ 4096 → ReadsOn once held source (kept ++ came) new
+  more : (kept came : List ℕ) (mid new : S) → ReadsOn once held source kept mid → IsUnfinished kept → once mid (took.Got (length came)) new → 0 < length came → length came ≤ read_bytes → ReadsOn once held source (kept ++ came) new
 
 -- reads, and then one that answers so and gives no bytes
 abbrev pub ReadsTo : {S : Type 0} → (once : S → Took → S → Type 0) (took : Took) (held : List ℕ) (source : S) (held' : List ℕ) (source' : S) → Type 0

@@ -10,7 +10,7 @@ use Rattle.http_wire.specs.declared.wire.Next.{Next}
 use Rattle.http_wire.specs.declared.wire.Next.TheVariants as next
 use Rattle.http_wire.specs.Messages.{Message, IsMessage}
 use Rattle.http_wire.specs.Outcomes.{Refuses, IsUnfinished}
-use Rattle.http_wire.specs.Requests.{Ending, refused, ended, truncated, EndsAs, RequestsOf}
+use Rattle.http_wire.specs.Requests.{ended, truncated, EndsAs, RequestsOf}
 use Rattle.http_wire.specs.Incoming.{incoming_of, refused_as, Comes}
 use Rattle.http_wire.specs.Reading.{ReadsOn, ReadsTo}
 

@@ -24,7 +24,8 @@ pub enum Named {
 /// The fields of this name, without ASCII case; the fields' places are counted in `bytes`.
 pub fn find_named(bytes: &[u8], fields: &[HeaderSpan], name: &[u8]) -> Named
     requires { All (IsHeaderWithin (length bytes.now)) fields.now }
-    ensures { NamedIs bytes.now (values_named name.now (map (header_bytes bytes.now) fields.now)) result }
+    ensures { NamedIs bytes.now
+        (values_named name.now (map (header_bytes bytes.now) fields.now)) result }
 {
     let mut found = None;
     for field in fields {
@@ -74,7 +75,8 @@ pub fn closes_behind(minor: u8, bytes: &[u8], fields: &[HeaderSpan]) -> bool
 /// Whether a Connection field has the option `close`.
 fn says_close(bytes: &[u8], fields: &[HeaderSpan]) -> bool
     requires { All (IsHeaderWithin (length bytes.now)) fields.now }
-    ensures { result ≡ list_any has_close (values_named (codes "connection") (map (header_bytes bytes.now) fields.now)) }
+    ensures { result ≡ list_any has_close
+        (values_named (codes "connection") (map (header_bytes bytes.now) fields.now)) }
 {
     for field in fields {
         if is_same_name(field.name.of(bytes), b"connection")

@@ -1,20 +1,28 @@
 //! The reader of requests.
 ghost use Rattle.std.specs.Prelude.{◌≡◌, ◌<◌, ◌≤◌, [], length, IfOk};
 ghost use Rattle.page_units.specs.Outside.{before};
+ghost use Rattle.http_wire.specs.Bounds.{field_room, held_bytes};
 ghost use Rattle.http_wire.specs.Outcomes.{IsUnfinished};
 ghost use Rattle.http_wire.specs.Held.{WholeIs};
-ghost use Rattle.http_wire.specs.Answers.{FrameSays, FrameStream, FrameCause, TakenFrom, ReadHolds, ReadOnce, ReadEnds, ReadCause, OnRead};
+ghost use Rattle.http_wire.specs.Answers.{
+  FrameSays,
+  FrameStream,
+  FrameCause,
+  TakenFrom,
+  ReadHolds,
+  ReadOnce,
+  ReadEnds,
+  ReadCause,
+  OnRead,
+};
 ghost use Rattle.http_wire.specs.Reading.{FrameReads};
 
-use crate::head::FIELD_ROOM;
+use crate::bounds::{FIELD_ROOM, HELD_BYTES, READ_BYTES};
 use crate::held::{Held, Whole, judge};
 use crate::request::{Framed, Request};
 use httparse::spans::{EMPTY_HEADER_SPAN, HeaderSpan};
 use page_units::{NoMemory, Source, Took};
 use std::alloc::Global;
-
-/// How many bytes are held at the most: a head of 16,384 and a body of 65,536.
-const HELD_BYTES: usize = 81_920;
 
 /// Reads requests from a source, whose bytes behind the last request it holds.
 #[derive(Drop)]
@@ -23,8 +31,8 @@ pub struct Frames {
     pub held: Vec<u8>,
     room: Vec<HeaderSpan>,
     alloc: Global,
-    pub ghost few: { length held.items ≤ 81920 },
-    ghost fields: { 8192 ≤ length room.items },
+    pub ghost few: { length held.items ≤ held_bytes },
+    ghost fields: { field_room ≤ length room.items },
 }
 
 impl Frames {
@@ -43,10 +51,13 @@ impl Frames {
     /// bytes that it holds are an unfinished request. After anything but a request it is
     /// given up.
     pub fn next<S: Source>(&mut self, source: &mut S) -> Result<Framed, NoMemory>
-        ensures says { FrameSays result (before self.old.held.items (S.left source.old)) (before self.new.held.items (S.left source.new)) self.new.held.items }
-        ensures stream { FrameStream result (before self.old.held.items (S.left source.old)) (before self.new.held.items (S.left source.new)) }
+        ensures says { FrameSays result (before self.old.held.items (S.left source.old))
+            (before self.new.held.items (S.left source.new)) self.new.held.items }
+        ensures stream { FrameStream result (before self.old.held.items (S.left source.old))
+            (before self.new.held.items (S.left source.new)) }
         ensures cause { FrameCause result (S.faults source.old) (S.faults source.new) }
-        ensures reads { FrameReads S.read_once result self.old.held.items source.old self.new.held.items source.new }
+        ensures reads { FrameReads S.read_once result self.old.held.items source.old
+            self.new.held.items source.new }
         // Where the bytes that it holds show the answer, it doesn't read.
         ensures quiet { ¬ (IsUnfinished self.old.held.items) → source.new ≡ source.old }
     {
@@ -70,10 +81,11 @@ impl Frames {
         }
     }
 
-    /// Takes the request whose parts these are from the front of the bytes that are held.
+    /// Takes the request whose parts these are from the start of the bytes that are held.
     fn take(&mut self, whole: &Whole) -> Result<Request, NoMemory>
         requires { WholeIs self.old.held.items whole.now }
-        ensures { IfOk result (λ request. TakenFrom self.old.held.items self.new.held.items request) }
+        ensures { IfOk result (λ request. TakenFrom self.old.held.items self.new.held.items
+            request) }
     {
         let spans = whole.spans;
         let end = spans.len + whole.body_length;
@@ -94,14 +106,15 @@ impl Frames {
 
     /// Reads more bytes behind those that are held.
     fn read_more<S: Source>(&mut self, source: &mut S) -> Result<Took, NoMemory>
-        requires { length self.old.held.items < 81920 }
-        ensures ahead { OnRead result (before self.new.held.items (S.left source.new) ≡ before self.old.held.items (S.left source.old)) }
+        requires { length self.old.held.items < held_bytes }
+        ensures ahead { OnRead result (before self.new.held.items (S.left source.new)
+            ≡ before self.old.held.items (S.left source.old)) }
         ensures holds { ReadHolds result self.old.held.items self.new.held.items }
         ensures once { ReadOnce S.read_once result source.old source.new }
         ensures ends { ReadEnds result (S.left source.new) }
         ensures cause { ReadCause result (S.faults source.old) (S.faults source.new) }
     {
-        let mut piece = [0; 4096];
+        let mut piece = [0; READ_BYTES];
         let most = piece.len().min(HELD_BYTES - self.held.len());
         let took = source.read(&mut piece[..most]);
         if let Took::Got(count) = took {

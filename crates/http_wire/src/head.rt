@@ -1,31 +1,26 @@
 //! The head of a request: whole, hopeless or unfinished.
 ghost use Rattle.std.specs.Prelude.{◌≡◌, ◌≤◌, length};
+ghost use Rattle.http_wire.specs.Bounds.{head_bytes, field_room};
 ghost use Rattle.http_wire.specs.Held.{HeadIs};
 
 use httparse::Status;
 use httparse::spans::{HeaderSpan, RequestSpans, parse_request};
 
-/// In how many bytes a head is looked for.
-pub const HEAD_BYTES: usize = 16_384;
-
-/// For how many fields there is room: more than so many bytes can hold.
-pub const FIELD_ROOM: usize = 8_192;
-
 /// What bytes show of a head.
 #[derive(Clone, Copy)]
 pub enum Head {
-    /// A head stands at the front, with its parts at these places.
+    /// A head stands at the start, with its parts at these places.
     Whole(RequestSpans),
     /// No bytes that follow make a head.
     Bad,
-    /// No head stands at the front yet, and one may come.
+    /// No head stands at the start yet, and one may come.
     Unfinished,
 }
 
-/// Reads a head, and writes the places of its fields to the front of the room.
+/// Reads a head, and writes the places of its fields to the start of the room.
 pub fn read_head(bytes: &[u8], room: &mut [HeaderSpan]) -> Head
-    requires fits { length bytes.now ≤ 16384 }
-    requires room { 8192 ≤ length room.old }
+    requires fits { length bytes.now ≤ head_bytes }
+    requires room { field_room ≤ length room.old }
     ensures { HeadIs bytes.now room.new result }
 {
     match parse_request(bytes, room) {

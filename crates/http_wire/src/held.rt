@@ -1,10 +1,12 @@
 //! What the bytes that are held show.
 ghost use Rattle.std.specs.Prelude.{◌≡◌, ℕ, ◌≤◌, List, ◌++◌, length};
 ghost use Rattle.httparse.specs.Spans.{IsRequestOf, IsRequestWithin};
+ghost use Rattle.http_wire.specs.Bounds.{head_bytes, field_room};
 ghost use Rattle.http_wire.specs.Held.{HeldIs};
 
+use crate::bounds::HEAD_BYTES;
 use crate::fields::{body_length_of, closes_behind};
-use crate::head::{HEAD_BYTES, Head, read_head};
+use crate::head::{Head, read_head};
 use httparse::spans::{HeaderSpan, RequestSpans};
 use wire_asks::Refusal;
 
@@ -22,17 +24,17 @@ pub struct Whole {
 /// What bytes show.
 #[derive(Clone, Copy)]
 pub enum Held {
-    /// A whole request at the front.
+    /// A whole request at the start.
     Whole(Whole),
-    /// What stands at the front is refused.
+    /// What stands at the start is refused.
     Refused(Refusal),
     /// The bytes end inside a request, or there are none.
     Unfinished,
 }
 
-/// What the bytes show of a request at their front. The room is written over.
+/// What the bytes show of a request at their start. The room is written over.
 pub fn judge(bytes: &[u8], room: &mut [HeaderSpan]) -> Held
-    requires { 8192 ≤ length room.old }
+    requires { field_room ≤ length room.old }
     ensures { HeldIs bytes.now result }
 {
     let seen = &bytes[..bytes.len().min(HEAD_BYTES)];
@@ -46,8 +48,8 @@ pub fn judge(bytes: &[u8], room: &mut [HeaderSpan]) -> Held
 
 /// The same where the head is whole in the first bytes, `seen`.
 fn judge_body(bytes: &[u8], seen: &[u8], spans: RequestSpans, room: &[HeaderSpan]) -> Held
-    requires front { (more : List ℕ) × (bytes.now ≡ seen.now ++ more) }
-    requires few { length seen.now ≤ 16384 }
+    requires prefix { (more : List ℕ) × (bytes.now ≡ seen.now ++ more) }
+    requires few { length seen.now ≤ head_bytes }
     requires whole { IsRequestOf seen.now room.now spans }
     requires within { IsRequestWithin seen.now room.now spans }
     ensures { HeldIs bytes.now result }

@@ -4,6 +4,7 @@
 //! What is asked and what is replied stand in crates of their own, and are passed on here.
 #![tactic(auto)]
 
+mod bounds;
 mod fields;
 mod framing;
 mod head;

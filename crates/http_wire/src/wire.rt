@@ -56,8 +56,8 @@ impl Wire {
     }
 
     /// What comes next of the source's bytes, however the source cuts them. It reads only while the
-    /// bytes that it holds are an unfinished request. After an end, a fault, want of memory and a
-    /// request that closes the wire is given up.
+    /// bytes that it holds are an unfinished request. The wire is given up after an end, a fault, an
+    /// error (memory was refused) and a request that closes.
     pub fn next<S: Source>(&mut self, source: &mut S) -> Result<Next, NoMemory>
         ensures says { NextSays result (before self.old.frames.held.items (S.left source.old))
             (before self.new.frames.held.items (S.left source.new)) self.new.frames.held.items }

@@ -6,6 +6,7 @@ use Rattle.std.specs.Char.Escape.{encode_utf16}
 use Rattle.std.proofs.lemmas.Bool.Decides.{nat_tests}
 use Rattle.std.proofs.lemmas.Int.{ints}
 use Rattle.std.proofs.lemmas.List.Elements.{All-nil, All-push}
+use Rattle.page_units.specs.Numbers.{greatest_number}
 use Rattle.grammar.specs.Grammar.{done, again}
 use Rattle.grammar.specs.Words.{choice, must, need}
 use Rattle.grammar.specs.Giving.{Gives}
@@ -48,7 +49,7 @@ of_cond b g h P d e = λ t. cond_gives any b g h t (λ v _. P v) (d t) (e t)
 -- ---- numbers
 
 abbrev IsSmall : Numeral → Type 0
-IsSmall s = s.value ≤ 9007199254740991
+IsSmall s = s.value ≤ greatest_number
 
 digits_small : (at : ℕ) (s : Numeral) (t : Char) → digits_fault at s t ≡ None → IsSmall s
 digits_small at s t h = grind (arith, nat_tests)
@@ -77,7 +78,7 @@ numeral_small t = of_cond (is 0x30 t.code) (choice (of (is 0x78)) (hex t.at) (de
 abbrev OfLexeme : Lexeme → Type 0
 OfLexeme x = IsNumeral x.kind
 
-small_numeral : (n : ℕ) → n ≤ 9007199254740991 → IsNumeral (k.Num (pos n))
+small_numeral : (n : ℕ) → n ≤ greatest_number → IsNumeral (k.Num (pos n))
 small_numeral n h = (omega (arith, ints), record { least = omega (arith, ints); greatest = omega (arith, ints) })
 
 number_gives : (t : Char) → Each (number t) OfLexeme

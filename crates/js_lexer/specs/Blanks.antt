@@ -1,4 +1,5 @@
--- Comments (ECMA-262 5.1, 7.4), behind their `//` or `/*` (0x2F is `/`, 0x2A `*`).
+-- Comments (ECMA-262 5.1, 7.4), behind their `//` or `/*`.
+use Prim.Native.Char.{code}
 use Rattle.std.specs.Prelude.{ℕ, Bool, false, not, ◌||◌, ◌&&◌, cond}
 use Rattle.grammar.specs.Grammar.{done, again}
 use Rattle.grammar.specs.Words.{◌>>=◌, ◌>>◌, one, must}
@@ -27,16 +28,16 @@ abbrev pub inside : Bool → Bool → Inside
 inside starred newline = record { starred = starred; newline = newline }
 
 abbrev pub block_goes : Inside → Char → Bool
-block_goes s t = of (λ c. not (s.starred && is 0x2F c)) t
+block_goes s t = of (λ c. not (s.starred && is (code "/") c)) t
 
 abbrev pub block_char : Inside → R Inside
 block_char s = do
   t ← one (block_goes s)
-  done (inside (is 0x2A t.code) (s.newline || is_terminator t.code))
+  done (inside (is (code "*") t.code) (s.newline || is_terminator t.code))
 
 -- to the first `*/`. With a line terminator in it a comment counts as one.
 unfoldable pub block_comment : ℕ → R Element
 block_comment at = do
   s ← again block_goes block_char (inside false false)
-  must (of (is 0x2F)) (λ _. UnclosedComment at)
+  must (of (is (code "/"))) (λ _. UnclosedComment at)
   done (cond s.newline Newline White)

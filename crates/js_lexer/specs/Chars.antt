@@ -1,5 +1,6 @@
 -- The characters of a script, and the classes of code points that its tokens speak of
 -- (ECMA-262 5.1: 7.2 white space, 7.3 line terminators, 7.6 names, 7.8 literals).
+use Prim.Native.Char.{code}
 use Rattle.std.specs.Prelude.{ℕ, Bool, not, ◌||◌, ◌&&◌, ◌==◌, nat_lt}
 use Rattle.std.specs.Char.{digit_value}
 use Rattle.page_units.specs.Blanks.{is_white_space, is_line_terminator}
@@ -30,11 +31,11 @@ is_terminator c = is_line_terminator c
 
 -- `$`, `_` or XID_Start
 abbrev pub starts_name : ℕ → Bool
-starts_name c = c == 0x24 || c == 0x5F || is_xid_start c
+starts_name c = c == code "$" || c == code "_" || is_xid_start c
 
 -- `$`, `_` or XID_Continue
 abbrev pub is_part : ℕ → Bool
-is_part c = c == 0x24 || c == 0x5F || is_xid_continue c
+is_part c = c == code "$" || c == code "_" || is_xid_continue c
 
 -- `0` to `9`
 abbrev pub is_digit : ℕ → Bool
@@ -46,4 +47,4 @@ is_hex c = nat_lt (digit_value c) 16
 
 -- `"` or `'`
 abbrev pub is_quote : ℕ → Bool
-is_quote c = c == 0x22 || c == 0x27
+is_quote c = c == code "\"" || c == code "'"

@@ -1,4 +1,5 @@
 -- Names and reserved words (ECMA-262 5.1, 7.6). An escape in a name is left out.
+use Prim.Native.Char.{code}
 use Rattle.std.specs.Prelude.{ℕ, Bool, List, ◌++◌, Option, Some, None}
 use Rattle.std.specs.Char.Escape.{encode_utf16}
 use Rattle.grammar.specs.Grammar.{done, again}
@@ -46,4 +47,4 @@ name t = do
 
 -- outside of texts a backslash begins an escape in a name; behind it
 unfoldable pub escaped_name : ℕ → R Lexeme
-escaped_name back = must (of (is 0x75)) (λ _. BadChar back) >> hex_four back >> refuse (λ _. LeftOut back)
+escaped_name back = must (of (is (code "u"))) (λ _. BadChar back) >> hex_four back >> refuse (λ _. LeftOut back)

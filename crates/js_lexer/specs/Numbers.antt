@@ -1,9 +1,11 @@
 -- Numbers (ECMA-262 5.1, 7.8.3, without points and exponents): decimal digits with no leading zero, or `0x` and
 -- hexadecimal digits, up to 2^53 - 1.
+use Prim.Native.Char.{code}
 use Rattle.std.specs.Prelude.{ℕ, ◌+◌, ◌*◌, Bool, true, false, ◌||◌, cond, ◌==◌, nat_le, nat_lt, Option, Some, None, pos}
 use Rattle.std.specs.Char.{digit_value}
 use Rattle.grammar.specs.Grammar.{done, again}
 use Rattle.grammar.specs.Words.{◌>>=◌, ◌>>◌, one, need, refuse, choice, barred}
+use Rattle.page_units.specs.Numbers.{greatest_number}
 use Rattle.placed_chars.specs.declared.chars.Char.{Char}
 use Rattle.js_lexer.specs.declared.fault.LexFault.{LexFault}
 use Rattle.js_lexer.specs.declared.fault.LexFault.TheVariants.{BadNumber, BigNumber, LeftOut}
@@ -13,13 +15,9 @@ use Rattle.js_lexer.specs.declared.numbers.Numeral.{Numeral}
 use Rattle.js_lexer.specs.Chars.{R, of, is, is_part, is_digit, is_hex}
 use Rattle.js_lexer.specs.Elements.{lexeme}
 
--- the largest number, 2^53 - 1
-abbrev pub most : ℕ
-most = 9007199254740991
-
--- a value, where all above the largest number are one
+-- a value, where all above the greatest number are one
 abbrev pub capped : ℕ → ℕ
-capped n = cond (nat_le n most) n 9007199254740992
+capped n = cond (nat_le n greatest_number) n (greatest_number + 1)
 
 -- a number so far: its value, capped; whether a digit stands behind a leading zero; the byte behind it
 abbrev pub numeral : ℕ → Bool → ℕ → Numeral
@@ -27,11 +25,11 @@ numeral value is_bad past = record { value = value; is_bad = is_bad; past = past
 
 -- `e` or `E`
 abbrev pub is_exponent : ℕ → Bool
-is_exponent c = c == 0x65 || c == 0x45
+is_exponent c = c == code "e" || c == code "E"
 
 -- `+` or `-`
 abbrev pub is_sign : ℕ → Bool
-is_sign c = c == 0x2B || c == 0x2D
+is_sign c = c == code "+" || c == code "-"
 
 -- ---- decimal
 
@@ -43,13 +41,13 @@ more_digits leads_zero s = do
   t ← one (of is_digit)
   done (numeral (capped (s.value * 10 + digit_value t.code)) leads_zero t.past)
 
--- What follows the digits, or what they are, may be a fault at the number's start: a `.` (0x2E), a name character or
+-- What follows the digits, or what they are, may be a fault at the number's start: a `.`, a name character or
 -- a leading zero, a value that is too large.
 abbrev pub digits_fault : ℕ → Numeral → Char → Option LexFault
 digits_fault at s t =
-    cond (of (is 0x2E) t) (Some (LeftOut at))
+    cond (of (is (code ".")) t) (Some (LeftOut at))
     (cond (of is_part t || s.is_bad) (Some (BadNumber at))
-    (cond (nat_lt most s.value) (Some (BigNumber at)) None))
+    (cond (nat_lt greatest_number s.value) (Some (BigNumber at)) None))
 
 abbrev pub exponent_digit : ℕ → R Numeral
 exponent_digit at = refuse (λ t. cond (of is_digit t) (LeftOut at) (BadNumber at))
@@ -77,7 +75,7 @@ more_hex s = do
 abbrev pub hex_fault : ℕ → Numeral → Char → Option LexFault
 hex_fault at s t =
     cond (of is_part t) (Some (BadNumber at))
-    (cond (nat_lt most s.value) (Some (BigNumber at)) None)
+    (cond (nat_lt greatest_number s.value) (Some (BigNumber at)) None)
 
 -- behind its `0x`
 unfoldable pub hex : ℕ → R Numeral
@@ -89,10 +87,10 @@ hex at = do
 
 -- ---- both
 
--- behind its first digit; a `0` (0x30) with an `x` (0x78) behind it begins a hexadecimal one
+-- behind its first digit; a `0` with an `x` behind it begins a hexadecimal one
 abbrev pub numeral_of : Char → R Numeral
-numeral_of t = cond (is 0x30 t.code)
-    (choice (of (is 0x78)) (hex t.at) (decimal t.at true (numeral 0 false t.past)))
+numeral_of t = cond (is (code "0") t.code)
+    (choice (of (is (code "x"))) (hex t.at) (decimal t.at true (numeral 0 false t.past)))
     (decimal t.at false (numeral (digit_value t.code) false t.past))
 
 abbrev pub number : Char → R Lexeme

@@ -1,4 +1,5 @@
 -- A script's input elements, one behind the other to its end (ECMA-262 5.1, section 7).
+use Prim.Native.Char.{code}
 use Rattle.std.specs.Prelude.{ℕ, Bool, true, false, not, ◌||◌, cond, List, [], ◌∷◌, ◌++◌, Option, Some, None}
 use Rattle.grammar.specs.Grammar.{done, or, again}
 use Rattle.grammar.specs.Reading.{is_some}
@@ -26,11 +27,11 @@ use Rattle.js_lexer.specs.Punctuators.{punct_of, longest}
 abbrev pub as_token : R Lexeme → R Element
 as_token a = a >>= (λ lexeme. done (e.Lexeme lexeme))
 
--- behind a `/` (0x2F): a comment where another or a `*` (0x2A) follows, and else a punctuator
+-- behind a `/`: a comment where another or a `*` follows, and else a punctuator
 abbrev pub slash : Char → R Element
 slash t =
-    choice (of (is 0x2F)) (line_comment >> done e.White)
-    (choice (of (is 0x2A)) (block_comment t.at)
+    choice (of (is (code "/"))) (line_comment >> done e.White)
+    (choice (of (is (code "*"))) (block_comment t.at)
     (as_token (longest p.Slash t.at t.past)))
 
 -- A `.` before a digit would begin a number with a point, which is left out.
@@ -41,26 +42,26 @@ abbrev pub punctuator : Char → Option Punct → R Lexeme
 punctuator t None = refuse (λ _. BadChar t.at)
 punctuator t (Some p) = longest p t.at t.past
 
--- what may begin an input element (0x5C is a backslash)
+-- what may begin an input element
 unfoldable pub is_start : ℕ → Bool
 is_start c =
-    is_white c || is_terminator c || starts_name c || is_digit c || is_quote c || is 0x5C c || is_some (punct_of (c ∷ []))
+    is_white c || is_terminator c || starts_name c || is_digit c || is_quote c || is (code "\\") c || is_some (punct_of (c ∷ []))
 
--- a token that begins with this character, behind it (0x2E is `.`, 0x5C a backslash)
+-- a token that begins with this character, behind it
 unfoldable pub token : Char → R Lexeme
 token t =
     cond (starts_name t.code) (name t)
     (cond (is_digit t.code) (number t)
     (cond (is_quote t.code) (text t.at t.code)
-    (cond (is 0x2E t.code) (dot t)
-    (cond (is 0x5C t.code) (escaped_name t.at) (punctuator t (punct_of (t.code ∷ [])))))))
+    (cond (is (code ".") t.code) (dot t)
+    (cond (is (code "\\") t.code) (escaped_name t.at) (punctuator t (punct_of (t.code ∷ [])))))))
 
 -- what begins with this character, behind it
 unfoldable pub begun : Char → R Element
 begun t =
     cond (is_white t.code) (done e.White)
     (cond (is_terminator t.code) (done e.Newline)
-    (cond (is 0x2F t.code) (slash t) (as_token (token t))))
+    (cond (is (code "/") t.code) (slash t) (as_token (token t))))
 
 -- white space, a line terminator, a comment or a token; any other character is bad
 unfoldable pub element : R Element

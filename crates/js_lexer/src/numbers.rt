@@ -1,8 +1,9 @@
 //! Numbers.
-ghost use Rattle.std.specs.Prelude.{◌≡◌, ◌≤◌, drop, IsTrue, IsFalse, IfOk, MatchOption, cond};
+ghost use Rattle.std.specs.Prelude.{◌≡◌, ◌≤◌, ◌+◌, drop, IsTrue, IsFalse, IfOk, MatchOption, cond};
 ghost use Rattle.std.specs.Char.{digit_value};
 ghost use Rattle.grammar.specs.Grammar.{first};
 ghost use Rattle.grammar.specs.Reading.{read, Bad};
+ghost use Rattle.page_units.specs.Numbers.{greatest_number};
 ghost use Rattle.placed_chars.specs.Chars.{stop};
 ghost use Rattle.js_lexer.specs.Chars as chars;
 ghost use Rattle.js_lexer.specs.Chars.{of};
@@ -12,14 +13,15 @@ ghost use Rattle.js_lexer.specs.Reads.{Reads};
 use crate::fault::LexFault;
 use crate::lexer::{Lexeme, Lexer};
 use crate::token::Kind;
+use page_units::GREATEST_NUMBER;
 
-/// The largest number, 2^53 - 1.
-const MOST: u64 = 9_007_199_254_740_991;
+/// The greatest number, 2^53 - 1.
+const MOST: u64 = GREATEST_NUMBER as u64;
 
 /// A number so far.
 #[derive(Clone, Copy)]
 pub(crate) struct Numeral {
-    /// Its value, and 2^53 for each that is above the largest number.
+    /// Its value, and 2^53 for each that is above the greatest number.
     value: u64,
     /// Whether a digit stands behind a leading zero.
     is_bad: bool,
@@ -27,10 +29,10 @@ pub(crate) struct Numeral {
     past: u32,
 }
 
-/// The value, and 2^53 for each that is above the largest number.
+/// The value, and 2^53 for each that is above the greatest number.
 fn capped(value: u64) -> u64
     ensures value { result ≡ numbers.capped value }
-    ensures small { result ≤ 9007199254740992 }
+    ensures small { result ≤ greatest_number + 1 }
 {
     if value <= MOST { value } else { MOST + 1 }
 }
@@ -103,9 +105,9 @@ impl<'a> Lexer<'a> {
     /// Takes the decimal digits behind the first of the number that begins at `at`.
     #[tactic(auto, unfolding(crate::specs::Numbers::decimal))]
     fn decimal(&mut self, at: u32, leads_zero: bool, start: Numeral) -> Result<Numeral, LexFault>
-        requires { start.value ≤ 9007199254740992 }
+        requires { start.value ≤ greatest_number + 1 }
         ensures value { Reads (read stop (numbers.decimal at leads_zero start) self.old) result self.new }
-        ensures small { IfOk result (λ numeral. numeral.value ≤ 9007199254740991) }
+        ensures small { IfOk result (λ numeral. numeral.value ≤ greatest_number) }
     {
         let mut numeral = start;
         'digits: while let Some(digit) = self.digit() {
@@ -130,7 +132,7 @@ impl<'a> Lexer<'a> {
     #[tactic(auto, unfolding(crate::specs::Numbers::hex))]
     fn hex(&mut self, at: u32) -> Result<Numeral, LexFault>
         ensures value { Reads (read stop (numbers.hex at) self.old) result self.new }
-        ensures small { IfOk result (λ numeral. numeral.value ≤ 9007199254740991) }
+        ensures small { IfOk result (λ numeral. numeral.value ≤ greatest_number) }
     {
         let Some(digit) = self.hex_digit() else {
             return Err(LexFault::BadNumber(at));
@@ -162,7 +164,7 @@ impl<'a> Lexer<'a> {
         requires here { IsTrue (of chars.is_digit (first self.old stop)) }
         requires value { digit ≡ digit_value (first self.old stop).code }
         ensures value { Reads (read stop (numbers.numeral_of (first self.old stop)) (drop 1 self.old)) result self.new }
-        ensures small { IfOk result (λ numeral. numeral.value ≤ 9007199254740991) }
+        ensures small { IfOk result (λ numeral. numeral.value ≤ greatest_number) }
     {
         let at = self.place();
         let start = Numeral {

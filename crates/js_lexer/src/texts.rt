@@ -12,7 +12,7 @@ use crate::classes::is_terminator;
 use crate::fault::LexFault;
 use crate::lexer::{Lexeme, Lexer};
 use crate::token::Kind;
-use page_units::{NoMemory, Text, push_char};
+use page_units::{NoMemory, Text, push_ascii, push_char};
 
 fn push_unit(units: &mut Vec<u16>, unit: u16) -> Result<(), NoMemory>
     ensures { OnOk result (units.new.items ≡ units.old.items ++ unit ∷ []) }
@@ -26,12 +26,12 @@ fn push_single(units: &mut Vec<u16>, c: char) -> Result<(), NoMemory>
     ensures { OnOk result (units.new.items ≡ units.old.items ++ texts.single c) }
 {
     match c {
-        'b' => push_unit(units, 0x08),
-        'f' => push_unit(units, 0x0c),
-        'n' => push_unit(units, 0x0a),
-        'r' => push_unit(units, 0x0d),
-        't' => push_unit(units, 0x09),
-        'v' => push_unit(units, 0x0b),
+        'b' => push_ascii(units, b"\x08"),
+        'f' => push_ascii(units, b"\x0c"),
+        'n' => push_ascii(units, b"\n"),
+        'r' => push_ascii(units, b"\r"),
+        't' => push_ascii(units, b"\t"),
+        'v' => push_ascii(units, b"\x0b"),
         _ => push_char(units, c),
     }
 }

@@ -1,8 +1,7 @@
 //! Names in order, which are found in an ordered set.
 ghost use Rattle.std.specs.Prelude.{◌≡◌, [], ◌∷◌, ◌++◌, IfOk, true};
 ghost use Rattle.std.specs.BTreeSet.{Updates};
-ghost use Rattle.std.specs.Cmp.Lexicographic.{slice_cmp};
-ghost use Rattle.std.specs.Ordering.{nat_cmp};
+ghost use Rattle.page_units.specs.Texts.{text_cmp};
 ghost use Rattle.js_nodes.specs.Operands as operands;
 ghost use Rattle.js_nodes.specs.Pieces as pieces;
 
@@ -83,7 +82,7 @@ impl Names {
 
 /// A set with one name more.
 pub(crate) fn with_name(sorted: BTreeSet<Text>, name: &Text) -> Result<BTreeSet<Text>, NoMemory>
-    ensures { IfOk result (λ more. Updates (slice_cmp nat_cmp) sorted more name.now true) }
+    ensures { IfOk result (λ more. Updates text_cmp sorted more name.now true) }
 {
     let mut sorted = sorted;
     sorted.insert(name.clone()?)?;

@@ -1,5 +1,5 @@
 -- Conversions of values (ECMA-262 5.1, 9.2, 9.3 and 9.8), with whole numbers alone (this project's own).
-use Rattle.std.specs.Prelude.{ℕ, Bool, true, false, not, cond, ◌==◌, List, [], length, ℤ, pos, negsuc, codes}
+use Rattle.std.specs.Prelude.{ℕ, Bool, true, false, not, cond, ◌==◌, List, [], length, pos, negsuc, codes}
 use Rattle.page_units.specs.Digits.{digits}
 use Rattle.page_units.specs.declared.value.Value.{Value}
 use Rattle.page_units.specs.declared.value.Value.TheVariants as v

@@ -8,6 +8,7 @@ use Rattle.page_units.specs.declared.operator.UnOp.{UnOp}
 use Rattle.page_units.specs.declared.operator.UnOp.TheVariants as u
 use Rattle.page_units.specs.declared.value.Value.{Value}
 use Rattle.page_units.specs.declared.value.Value.TheVariants as v
+use Rattle.page_units.specs.Texts.{longest_text}
 use Rattle.js_ops.specs.declared.numbers.NumberOf.{NumberOf}
 use Rattle.js_ops.specs.declared.numbers.NumberOf.TheVariants.{Num, Outside}
 use Rattle.js_ops.specs.Whole.{is_in_range, to_uint32, signed, to_int32, shift_count, shifted_right}
@@ -65,9 +66,9 @@ abbrev pub is_text : Value → Bool
 is_text (v.Str units) = true
 is_text _ = false
 
--- two texts joined, of at most 65,535 units (11.6.1)
+-- two texts joined, which may not be longer than a text (11.6.1)
 abbrev pub joined : List ℕ → List ℕ → Given
-joined x y = cond (nat_le (length x + length y) 65535) (value ((length x + length y) / units_a_step) (v.Str (x ++ y))) too_long
+joined x y = cond (nat_le (length x + length y) longest_text) (value ((length x + length y) / units_a_step) (v.Str (x ++ y))) too_long
 
 -- the steps of comparing two texts: those of the shorter one
 abbrev pub comparing : List ℕ → List ℕ → ℕ

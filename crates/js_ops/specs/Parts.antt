@@ -1,10 +1,10 @@
 -- What the parts of the operators give, in the operators' own terms (this project's own).
 use Rattle.std.specs.Prelude.{◌≡◌, ℕ, zero, Bool, not, Option, Some, None, Result, Ok, Err, ⊤, List, ℤ, pos, ◌+ℤ◌, ◌-ℤ◌, ◌*ℤ◌, ◌*◌, ◌/◌, ◌%◌, ◌^◌, bit_and, bit_or, bit_xor}
 use Rattle.std.specs.declared.cmp.Ordering.{Ordering}
-use Rattle.std.specs.Cmp.Lexicographic.{slice_cmp}
-use Rattle.std.specs.Ordering.{nat_cmp, int_cmp, is_eq, is_lt, is_gt, is_le, is_ge}
+use Rattle.std.specs.Ordering.{int_cmp, is_eq, is_lt, is_gt, is_le, is_ge}
 use Rattle.page_units.specs.declared.value.Value.{Value}
 use Rattle.page_units.specs.declared.value.Value.TheVariants as v
+use Rattle.page_units.specs.Texts.{text_cmp}
 use Rattle.js_ops.specs.declared.arithmetic.NumberOp.{NumberOp}
 use Rattle.js_ops.specs.declared.arithmetic.NumberOp.TheVariants as n
 use Rattle.js_ops.specs.declared.comparisons.Relation.{Relation}
@@ -48,7 +48,7 @@ holds r.GreaterEqual order = is_ge order
 
 -- whether two texts stand in this relation by their units, and two numbers by their size
 abbrev pub texts_stand : Relation → List ℕ → List ℕ → Bool
-texts_stand relation x y = holds relation (slice_cmp nat_cmp x y)
+texts_stand relation x y = holds relation (text_cmp x y)
 
 abbrev pub numbers_stand : Relation → ℤ → ℤ → Bool
 numbers_stand relation x y = holds relation (int_cmp x y)

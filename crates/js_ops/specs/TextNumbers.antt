@@ -1,5 +1,6 @@
 -- The number of a text (ECMA-262 5.1, 9.3.1), with whole numbers alone (this project's own): digits with an optional
 -- sign, or `0x` and hexadecimal digits, are a number; every other numeric literal is outside.
+use Prim.Native.Char.{code}
 use Rattle.std.specs.Prelude.{ℕ, ◌-◌, ◌==◌, Bool, true, false, ◌&&◌, ◌||◌, cond, List, [], ◌∷◌, length, take, drop, ℤ, pos, neg_ℤ, nat_lt, codes}
 use Rattle.std.specs.List.{prefix_len, suffix_len, list_all}
 use Rattle.std.specs.Char.{is_ascii_digit, digit_value}
@@ -43,30 +44,30 @@ behind_digits units = drop (prefix_len is_ascii_digit units) units
 
 abbrev pub is_minus : List ℕ → Bool
 is_minus [] = false
-is_minus (c ∷ cs) = c == 45
+is_minus (c ∷ cs) = c == code "-"
 
 -- what stands behind a sign, or the whole where there is none
 abbrev pub unsigned : List ℕ → List ℕ
 unsigned [] = []
-unsigned (c ∷ cs) = cond (c == 43 || c == 45) cs (c ∷ cs)
+unsigned (c ∷ cs) = cond (c == code "+" || c == code "-") cs (c ∷ cs)
 
 -- ---- the literals
 
 -- `0x` or `0X` and hexadecimal digits (HexIntegerLiteral), with this letter
 abbrev pub is_hex_literal : (letter : ℕ) → List ℕ → Bool
-is_hex_literal letter (c ∷ x ∷ digits) = c == 48 && x == letter && is_some_digits is_hex_digit digits
+is_hex_literal letter (c ∷ x ∷ digits) = c == code "0" && x == letter && is_some_digits is_hex_digit digits
 is_hex_literal letter _ = false
 
 -- ExponentPart, or nothing
 abbrev pub is_exponent : List ℕ → Bool
 is_exponent [] = true
-is_exponent (c ∷ cs) = (c == 101 || c == 69) && is_digits (unsigned cs)
+is_exponent (c ∷ cs) = (c == code "e" || c == code "E") && is_digits (unsigned cs)
 
 -- what follows the digits before a point: nothing, an exponent, or a point with digits and an exponent; on one side of
 -- the point there are digits
 abbrev pub goes_on : (whole : List ℕ) → List ℕ → Bool
 goes_on whole [] = nat_lt 0 (length whole)
-goes_on whole (c ∷ cs) = cond (c == 46)
+goes_on whole (c ∷ cs) = cond (c == code ".")
     ((nat_lt 0 (length whole) || nat_lt 0 (length (digits_at cs))) && is_exponent (behind_digits cs))
     (nat_lt 0 (length whole) && is_exponent (c ∷ cs))
 
@@ -91,8 +92,8 @@ abbrev pub number_of_literal : List ℕ → NumberOf
 number_of_literal units =
     cond (length units == 0) (Num (pos 0))
     (cond (is_digits (unsigned units)) (if_in_range (signed_value units))
-    (cond (is_hex_literal 120 units) (if_in_range (pos (digits_value 16 (drop 2 units))))
-    (cond (is_hex_literal 88 units || is_decimal units) Outside NoNumber)))
+    (cond (is_hex_literal (code "x") units) (if_in_range (pos (digits_value 16 (drop 2 units))))
+    (cond (is_hex_literal (code "X") units || is_decimal units) Outside NoNumber)))
 
 abbrev pub number_of_text : List ℕ → NumberOf
 number_of_text units = number_of_literal (trimmed units)

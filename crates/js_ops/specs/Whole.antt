@@ -1,10 +1,11 @@
 -- Whole numbers of 53 bits and a sign, and their residues modulo 2^32 (ECMA-262 5.1, 9.5 and 9.6; that a number is
 -- whole and has one zero is this project's own).
 use Rattle.std.specs.Prelude.{ℕ, ◌-◌, ◌/◌, ◌%◌, ◌^◌, Bool, ◌&&◌, cond, nat_lt, ℤ, pos, negsuc, ◌-ℤ◌, int_le}
+use Rattle.page_units.specs.Numbers.{greatest_number, least_number}
 
 -- from -(2^53 - 1) to 2^53 - 1
 abbrev pub is_in_range : ℤ → Bool
-is_in_range z = int_le (negsuc 9007199254740990) z && int_le z (pos 9007199254740991)
+is_in_range z = int_le least_number z && int_le z (pos greatest_number)
 
 -- a number as an unsigned number of 32 bits (9.6)
 abbrev pub to_uint32 : ℤ → ℕ

@@ -7,11 +7,8 @@ ghost use Rattle.js_ops.specs.Operators as spec;
 use crate::conversions::{push_text, text_len};
 use crate::fault::OpFault;
 use crate::steps::{UNITS_A_STEP, count_steps};
-use page_units::{Meter, Text, Value};
+use page_units::{LONGEST_TEXT, Meter, Text, Value};
 use std::alloc::Global;
-
-/// The most UTF-16 units of a text that an operator gives.
-pub const MOST_UNITS: usize = 65_535;
 
 /// Whether a value is a text.
 pub(crate) fn is_text(a: &Value) -> bool
@@ -34,7 +31,7 @@ pub(crate) fn joined(
     ensures { Answers (spec.joined (text a.now) (text b.now)) result meter.old meter.new }
 {
     let (left, right) = (text_len(a), text_len(b));
-    if left > MOST_UNITS || right > MOST_UNITS - left {
+    if left > LONGEST_TEXT || right > LONGEST_TEXT - left {
         return Err(OpFault::TooLong);
     }
     let count = left + right;

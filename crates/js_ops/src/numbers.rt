@@ -3,8 +3,7 @@ ghost use Rattle.std.specs.Prelude.{◌≡◌};
 ghost use Rattle.js_ops.specs.Operators.{whole};
 ghost use Rattle.js_ops.specs.Parts.{GivesNumber};
 
-/// The greatest whole number that a value can be, 2^53 - 1; the least is its negative.
-pub const GREATEST: i64 = 9_007_199_254_740_991;
+use page_units::GREATEST_NUMBER;
 
 /// The number of a primitive value (ECMA-262 5.1, 9.3).
 #[derive(Clone, Copy, Debug, PartialEq, Eq)]
@@ -22,7 +21,7 @@ pub enum NumberOf {
 pub(crate) fn in_range(number: i64) -> Option<i64>
     ensures { GivesNumber (whole number) result }
 {
-    if -GREATEST <= number && number <= GREATEST {
+    if -GREATEST_NUMBER <= number && number <= GREATEST_NUMBER {
         Some(number)
     } else {
         None

@@ -1,31 +1,13 @@
 //! The number of a text (ECMA-262 5.1, 9.3.1).
-ghost use Rattle.std.specs.Prelude.{◌≡◌, ◌≤◌, ◌-◌, nat_le, cond, pos, neg_ℤ, Some, None, length, drop};
+ghost use Rattle.std.specs.Prelude.{◌≡◌, ◌≤◌, ◌-◌, nat_le, nat_eq, cond, pos, neg_ℤ, Some, None, length, drop};
 ghost use Rattle.std.specs.List.{prefix_len, suffix_len};
-ghost use Rattle.std.specs.Char.{is_ascii_digit, digit_value};
+ghost use Rattle.std.specs.Char.{is_ascii_digit};
 ghost use Rattle.std.specs.Str.Parse.{digits_value};
+ghost use Rattle.page_units.specs.Numbers.{greatest_number};
 ghost use Rattle.js_ops.specs.TextNumbers as spec;
 
-use crate::numbers::{GREATEST, NumberOf};
-use page_units::{is_line_terminator, is_white_space};
-
-const PLUS: u16 = 0x2B;
-
-const MINUS: u16 = 0x2D;
-
-const POINT: u16 = 0x2E;
-
-const ZERO: u16 = 0x30;
-
-const UPPER_E: u16 = 0x45;
-
-const UPPER_X: u16 = 0x58;
-
-const LOWER_E: u16 = 0x65;
-
-const LOWER_X: u16 = 0x78;
-
-/// `Infinity`
-const INFINITY: [u16; 8] = [0x49, 0x6E, 0x66, 0x69, 0x6E, 0x69, 0x74, 0x79];
+use crate::numbers::NumberOf;
+use page_units::{GREATEST_NUMBER, digit_value, is_line_terminator, is_white_space, is_word};
 
 /// The number of a text: blanks around it don't count, and an empty one is 0.
 pub(crate) fn number_of_text(units: &[u16]) -> NumberOf
@@ -84,10 +66,10 @@ fn number_of_literal(units: &[u16]) -> NumberOf
     if is_digits(digits) {
         return decimal_number(is_minus(units), digits);
     }
-    if is_hex_literal(LOWER_X, units) {
+    if is_hex_literal(b'x', units) {
         return hex_number(&units[2..]);
     }
-    if is_hex_literal(UPPER_X, units) || is_decimal(units) {
+    if is_hex_literal(b'X', units) || is_decimal(units) {
         NumberOf::Outside
     } else {
         NumberOf::NoNumber
@@ -121,37 +103,26 @@ fn value_of(radix: u64, digits: &[u16]) -> Option<i64>
     requires least { 1 ≤ radix }
     requires most { radix ≤ 16 }
     ensures { let value = digits_value radix digits.now in
-        result ≡ cond (nat_le value 9007199254740991) (Some (pos value)) None }
+        result ≡ cond (nat_le value greatest_number) (Some (pos value)) None }
 {
     let mut value = 0;
     for unit in digits {
-        value = value * radix + digit_value(*unit);
-        if value > GREATEST as u64 {
+        value = value * radix + u64::from(digit_value(u32::from(*unit)));
+        if value > GREATEST_NUMBER as u64 {
             return None;
         }
     }
     Some(value as i64)
 }
 
-/// The value of a digit from `0` to `9`, `A` to `Z` or `a` to `z`, and 36 of any other unit.
-fn digit_value(unit: u16) -> u64
-    ensures value { result ≡ digit_value unit }
-    ensures bound { result ≤ 36 }
-{
-    match unit {
-        0x30..=0x39 => u64::from(unit - 0x30),
-        0x41..=0x5A => u64::from(unit - 0x41) + 10,
-        0x61..=0x7A => u64::from(unit - 0x61) + 10,
-        _ => 36,
-    }
-}
-
 /// Whether the units are `0`, this letter and hexadecimal digits.
-fn is_hex_literal(letter: u16, units: &[u16]) -> bool
+fn is_hex_literal(letter: u8, units: &[u16]) -> bool
     ensures { result ≡ spec.is_hex_literal letter units.now }
 {
     match units {
-        [zero, second, digits @ ..] => *zero == ZERO && *second == letter && is_hex_digits(digits),
+        [zero, second, digits @ ..] => {
+            is(*zero, b'0') && is(*second, letter) && is_hex_digits(digits)
+        }
         _ => false,
     }
 }
@@ -160,7 +131,7 @@ fn is_hex_literal(letter: u16, units: &[u16]) -> bool
 fn is_hex_digits(units: &[u16]) -> bool
     ensures { result ≡ spec.is_some_digits spec.is_hex_digit units.now }
 {
-    !units.is_empty() && units.iter().all(|unit| digit_value(*unit) < 16)
+    !units.is_empty() && units.iter().all(|unit| digit_value(u32::from(*unit)) < 16)
 }
 
 /// Whether the units are decimal digits, one at least.
@@ -173,7 +144,14 @@ fn is_digits(units: &[u16]) -> bool
 fn is_digit(unit: u16) -> bool
     ensures { result ≡ is_ascii_digit unit }
 {
-    0x30 <= unit && unit <= 0x39
+    u16::from(b'0') <= unit && unit <= u16::from(b'9')
+}
+
+/// Whether a unit is this ASCII character.
+fn is(unit: u16, character: u8) -> bool
+    ensures { result ≡ nat_eq unit character }
+{
+    unit == u16::from(character)
 }
 
 /// Whether the first unit is a minus sign.
@@ -181,7 +159,7 @@ fn is_minus(units: &[u16]) -> bool
     ensures { result ≡ spec.is_minus units.now }
 {
     match units {
-        [first, ..] => *first == MINUS,
+        [first, ..] => is(*first, b'-'),
         [] => false,
     }
 }
@@ -191,7 +169,7 @@ fn unsigned(units: &[u16]) -> &[u16]
     ensures { result.now ≡ spec.unsigned units.now }
 {
     match units {
-        [first, rest @ ..] if *first == PLUS || *first == MINUS => rest,
+        [first, rest @ ..] if is(*first, b'+') || is(*first, b'-') => rest,
         _ => units,
     }
 }
@@ -206,7 +184,7 @@ fn is_decimal(units: &[u16]) -> bool
 fn is_unsigned_decimal(units: &[u16]) -> bool
     ensures { result ≡ spec.is_unsigned_decimal units.now }
 {
-    if units == INFINITY.as_slice() {
+    if is_word(units, b"Infinity") {
         return true;
     }
     let (whole, rest) = units.split_at(digits_end(units));
@@ -232,7 +210,7 @@ fn goes_on(whole: &[u16], rest: &[u16]) -> bool
 {
     match rest {
         [] => !whole.is_empty(),
-        [first, behind @ ..] if *first == POINT => {
+        [first, behind @ ..] if is(*first, b'.') => {
             let (fraction, exponent) = behind.split_at(digits_end(behind));
             (!whole.is_empty() || !fraction.is_empty()) && is_exponent(exponent)
         }
@@ -247,7 +225,7 @@ fn is_exponent(units: &[u16]) -> bool
     match units {
         [] => true,
         [first, rest @ ..] => {
-            (*first == LOWER_E || *first == UPPER_E) && is_digits(unsigned(rest))
+            (is(*first, b'e') || is(*first, b'E')) && is_digits(unsigned(rest))
         }
     }
 }

@@ -1,4 +1,5 @@
 -- Classes of characters that exclude each other.
+use Prim.Native.Char.{code}
 use Rattle.std.proofs.Common.{◌≡◌, ℕ, Bool, true, false, refl, sym, subst, ◌∙◌}
 use Rattle.std.specs.Prelude.{◌||◌, ◌&&◌, not}
 use Rattle.std.proofs.lemmas.Bool.{eqb-true}
@@ -24,8 +25,8 @@ pub apart : (c : ℕ) (m : Char → Bool) → ((at past : ℕ) → m (character 
 apart c m e t h = not_code c (λ n. m (character n t.at t.past)) (e t.at t.past) t.code h
 
 -- A code of a class without white space isn't white space.
-white_not : (m : ℕ → Bool) → m 32 ≡ false → m 9 ≡ false → m 10 ≡ false → m 12 ≡ false → m 13 ≡ false → (x : ℕ) → m x ≡ true → is_white x ≡ false
-white_not m h1 h2 h3 h4 h5 x h = rw (not_code 32 m h1 x h) rw (not_code 9 m h2 x h) rw (not_code 10 m h3 x h) rw (not_code 12 m h4 x h) rw (not_code 13 m h5 x h) refl
+white_not : (m : ℕ → Bool) → m (code " ") ≡ false → m (code "\t") ≡ false → m (code "\n") ≡ false → m (code "\u{c}") ≡ false → m (code "\r") ≡ false → (x : ℕ) → m x ≡ true → is_white x ≡ false
+white_not m h1 h2 h3 h4 h5 x h = rw (not_code (code " ") m h1 x h) rw (not_code (code "\t") m h2 x h) rw (not_code (code "\n") m h3 x h) rw (not_code (code "\u{c}") m h4 x h) rw (not_code (code "\r") m h5 x h) refl
 
 pub letter_not_white : (x : ℕ) (s : Bool) → spaced_letter s x ≡ true → is_white x ≡ false
 letter_not_white x s h = white_not (spaced_letter s) refl refl refl refl refl x h
@@ -74,4 +75,4 @@ not_the_end x h = go (is_end x) refl
 
     go : (b : Bool) → is_end x ≡ b → not b ≡ true
     go false k = refl
-    go true k = absurd (neither (is_end x) (is_amp x) (is_lt x) k (not_code 38 is_end refl x k) (not_code 60 is_end refl x k) h)
+    go true k = absurd (neither (is_end x) (is_amp x) (is_lt x) k (not_code (code "&") is_end refl x k) (not_code (code "<") is_end refl x k) h)

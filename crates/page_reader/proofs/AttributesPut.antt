@@ -20,8 +20,8 @@ use Rattle.cell_places.proofs.Grown.{Every-map, Stands-put}
 use Rattle.cell_places.proofs.KeepsSound.{NodesAreTrees-kept}
 use Rattle.cell_places.proofs.NextChild.{other_slot, other_cell}
 use Rattle.cell_places.proofs.Spared.{PutsIn, PutsIn-append, Spares, after-append, after-spares}
-use Rattle.dom_tree.specs.Trees.{Attribute}
-use Rattle.dom_tree.specs.Holds.{attribute_at, attributes_at}
+use Rattle.tree_shape.specs.Trees.{Attribute}
+use Rattle.tree_shape.specs.Holds.{attribute_at, attributes_at}
 use Rattle.page_reader.specs.Planting.{name_acts, attribute_acts}
 
 -- the value of an attribute is put

@@ -1,7 +1,8 @@
 -- One character decides in the form of pages.
+use Prim.Native.Char.{code}
 use Rattle.std.proofs.Common.{◌≡◌, ℕ, zero, suc, Bool, true, false, cond, inl, List, [], ◌∷◌, refl, ◌∙◌}
 use Rattle.std.specs.Prelude.{codes}
-use Rattle.dom_tree.specs.Names.{is_void, is_raw}
+use Rattle.tree_shape.specs.Names.{is_void, is_raw}
 use Rattle.grammar.specs.Reading.{may, Eats, Decided}
 use Rattle.grammar.proofs.Words.{unless, unless_not, turned, second_false, must_decided}
 use Rattle.placed_chars.specs.declared.chars.Char.{Char}
@@ -28,11 +29,11 @@ pub record Within (inner : Inner) : Type 0 where
 
 markup_decided : (inner : Inner) (tag : List ℕ) (at : ℕ) (children : List Node) (units : List ℕ) (scripts : List Slice) → Within inner → Decided stop (markup inner tag at children units scripts)
 markup_decided inner tag at children units scripts i =
-    (apart 33 _ (λ p q. rw (i.begin at scripts (character 33 p q)) refl), ((refl, λ _. comment_decided at), λ _. tt), (apart 47 _ (λ p q. rw (i.begin at scripts (character 47 p q)) refl), ((refl, λ _. end_tag_decided at tag), λ _. tt), (λ t h. i.begin at scripts t ∙ third_false (is_bang t.code) (is_slash t.code) (is_letter t.code) (unless _ _ h), (i.decided at scripts, λ _. tt), tt)))
+    (apart (code "!") _ (λ p q. rw (i.begin at scripts (character (code "!") p q)) refl), ((refl, λ _. comment_decided at), λ _. tt), (apart (code "/") _ (λ p q. rw (i.begin at scripts (character (code "/") p q)) refl), ((refl, λ _. end_tag_decided at tag), λ _. tt), (λ t h. i.begin at scripts t ∙ third_false (is_bang t.code) (is_slash t.code) (is_letter t.code) (unless _ _ h), (i.decided at scripts, λ _. tt), tt)))
 
 pub piece_decided : (inner : Inner) (tag_at : ℕ) (tag : List ℕ) (c : Content) → Within inner → Decided stop (piece inner tag_at tag c)
 piece_decided inner tag_at tag (Inside children units scripts) i =
-    (λ t h. text_ends _ _ _ h, (refl, λ _. tt), (λ t h. not_code 38 is_lt refl t.code h, (refl, λ t. (reference_decided tag_at t.at, λ _. tt)), (refl, λ t. markup_decided inner tag t.at children units scripts i)))
+    (λ t h. text_ends _ _ _ h, (refl, λ _. tt), (λ t h. not_code (code "&") is_lt refl t.code h, (refl, λ t. (reference_decided tag_at t.at, λ _. tt)), (refl, λ t. markup_decided inner tag t.at children units scripts i)))
 piece_decided inner tag_at tag (Ended children scripts) i = tt
 
 -- One turn of the content reads a character at least.
@@ -84,7 +85,7 @@ bang_decided true at = front_bang_decided at
 bang_decided false at = comment_decided at
 
 before_root_decided : (is_front : Bool) (at : ℕ) → Decided stop (before_root is_front at)
-before_root_decided is_front at = (apart 33 _ (λ _ _. refl), ((refl, λ _. bang_decided is_front at), λ _. tt), (λ t h. second_false _ _ (unless _ _ h), (refl, λ _. tt), tt))
+before_root_decided is_front at = (apart (code "!") _ (λ _ _. refl), ((refl, λ _. bang_decided is_front at), λ _. tt), (λ t h. second_false _ _ (unless _ _ h), (refl, λ _. tt), tt))
 
 pub pad_before_decided : (o : Outside) → Decided stop (pad_before o)
 pad_before_decided Seeking = (λ t h. lt_not_white t.code h, (refl, λ _. tt), (refl, λ t. before_root_decided false t.at))
@@ -110,7 +111,7 @@ root_decided room Seeking = tt
 root_decided room (Opening at letter) = element_decided (opened room) at [] letter (opened_within room)
 
 behind_root_decided : (at : ℕ) → Decided stop (behind_root at)
-behind_root_decided at = (apart 33 _ (λ _ _. refl), (refl, λ _. comment_decided at), tt)
+behind_root_decided at = (apart (code "!") _ (λ _ _. refl), (refl, λ _. comment_decided at), tt)
 
 pub pad_behind_decided : (u : Unit {0}) → Decided stop (pad_behind u)
 pad_behind_decided u = (λ t h. lt_not_white t.code h, (refl, λ _. tt), (refl, λ t. behind_root_decided t.at))

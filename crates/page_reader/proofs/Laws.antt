@@ -1,7 +1,7 @@
 -- Laws of pages: what begins no page is the front of none, and no bytes show two faults or are a page with one.
 use Rattle.std.proofs.Common.{◌≡◌, ℕ, inl, inr, List, [], ◌∷◌, ◌++◌, Some, sym, ap, subst, ◌∙◌, arith}
 use Rattle.std.specs.Str.{chars}
-use Rattle.dom_tree.specs.Trees.{Trees}
+use Rattle.tree_shape.specs.Trees.{Trees}
 use Rattle.grammar.specs.Grammar.{Derives}
 use Rattle.grammar.proofs.Reader.{continued, only, only_bad}
 use Rattle.placed_chars.specs.declared.chars.Char.{Char}

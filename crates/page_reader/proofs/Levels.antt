@@ -1,4 +1,5 @@
 -- Texts that make nodes, and children by the levels that are left.
+use Prim.Native.Char.{code}
 use Rattle.std.proofs.Common.{◌≡◌, ℕ, suc, ◌-◌, ◌<◌, Bool, true, cond, List, [], ◌∷◌, ◌++◌, Option, Some, None, refl, sym, ap, subst, ◌∙◌, arith}
 use Rattle.std.specs.Prelude.{not, drop}
 use Rattle.grammar.specs.Grammar.{first}
@@ -50,7 +51,7 @@ one_level room at scripts ts some h = deeper (λ n. read stop (opened n at scrip
 -- A child behind a `<`.
 pub markup_child : (room : ℕ) (tag : List ℕ) (at : ℕ) (children : List Node) (units : List ℕ) (scripts : List Slice) (ts : List Char) (child : Found) (r : List Char) → is_letter (first ts stop).code ≡ true → read stop (opened room at scripts) ts ≡ Got child r → read stop (markup (opened room) tag at children units scripts) ts ≡ Got (Inside (flushed children units ++ child.node ∷ []) [] child.scripts) r
 markup_child room tag at children units scripts ts child r h e =
-    rw (not_code 33 is_letter refl (first ts stop).code h) rw (not_code 47 is_letter refl (first ts stop).code h) rw (may_opened room at scripts (first ts stop)) rw h rw e refl
+    rw (not_code (code "!") is_letter refl (first ts stop).code h) rw (not_code (code "/") is_letter refl (first ts stop).code h) rw (may_opened room at scripts (first ts stop)) rw h rw e refl
 
 -- The same, with the children and the text that are left.
 pub child_read : (room : ℕ) (tag : List ℕ) (at : ℕ) (children : List Node) (units : List ℕ) (scripts : List Slice) (ts : List Char) (child : Found) (r : List Char) (children' : List Node) (units' : List ℕ) → is_letter (first ts stop).code ≡ true → read stop (opened room at scripts) ts ≡ Got child r → children' ≡ flushed children units ++ child.node ∷ [] → units' ≡ []

@@ -1,6 +1,6 @@
 -- The trees of nodes, one constructor at a time.
 use Rattle.std.proofs.Common.{◌≡◌, ℕ, List, [], ◌∷◌, ◌++◌, map, refl, sym, ap, ◌∙◌}
-use Rattle.dom_tree.specs.Trees.{Trees, none, text, element}
+use Rattle.tree_shape.specs.Trees.{Trees, none, text, element}
 use Rattle.page_reader.specs.declared.node.Attribute.{Attribute}
 use Rattle.page_reader.specs.declared.node.Node.{Node}
 use Rattle.page_reader.specs.declared.node.Node.TheVariants as n

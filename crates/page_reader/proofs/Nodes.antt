@@ -2,9 +2,9 @@
 use Rattle.std.proofs.Common.{◌≡◌, ◌≤◌, ℕ, zero, suc, ◌+◌, Bool, true, false, cond, inl, inr, List, [], ◌∷◌, ◌++◌, map, length, refl, sym, ap, subst, ◌∙◌, arith}
 use Rattle.std.proofs.lemmas.List.{length-append}
 use Rattle.cell_places.specs.Lists.{Distinct}
-use Rattle.dom_tree.specs.Names.{is_void, is_raw}
-use Rattle.dom_tree.specs.Trees.{Trees, HaveNamesOnce}
-use Rattle.dom_tree.specs.Trees as t
+use Rattle.tree_shape.specs.Names.{is_void, is_raw}
+use Rattle.tree_shape.specs.Trees.{Trees, HaveNamesOnce}
+use Rattle.tree_shape.specs.Trees as t
 use Rattle.grammar.specs.Grammar.{first, StartsWith, Turns, Derives}
 use Rattle.placed_chars.specs.declared.chars.Char.{Char}
 use Rattle.page_reader.specs.declared.node.Attribute.{Attribute}

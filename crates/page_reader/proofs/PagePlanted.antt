@@ -8,8 +8,8 @@ use Rattle.cell_places.specs.Start.{document_cell, node_prototype}
 use Rattle.cell_places.specs.Sound.{IsSound, SumsWithin}
 use Rattle.cell_places.proofs.Grown.{count-start}
 use Rattle.cell_places.proofs.Runs.{heap-run}
-use Rattle.dom_tree.specs.Trees.{Trees, HaveNamesOnce}
-use Rattle.dom_tree.specs.Holds.{Holds, served}
+use Rattle.tree_shape.specs.Trees.{Trees, HaveNamesOnce}
+use Rattle.tree_shape.specs.Holds.{Holds, served}
 use Rattle.page_reader.specs.declared.node.Node.{Node}
 use Rattle.page_reader.specs.declared.page.ScriptText.{ScriptText}
 use Rattle.page_reader.specs.NodeTrees.{trees_of}

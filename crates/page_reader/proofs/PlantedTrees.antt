@@ -20,9 +20,9 @@ use Rattle.cell_places.proofs.Grown.{length-grown, absent_past, count-start, kin
 use Rattle.cell_places.proofs.KeepsSound.{SumsWithin-more}
 use Rattle.cell_places.proofs.NextChild.{other_slot}
 use Rattle.cell_places.proofs.Spared.{PutsIn, PutsIn-map, PutsIn-append, Spares, after-append, after-spares, after-kind}
-use Rattle.dom_tree.specs.Trees.{Trees, Attribute, HaveNamesOnce, none, text, element}
-use Rattle.dom_tree.specs.Holds as holds
-use Rattle.dom_tree.specs.Holds.{Holds, served, attributes_at}
+use Rattle.tree_shape.specs.Trees.{Trees, Attribute, HaveNamesOnce, none, text, element}
+use Rattle.tree_shape.specs.Holds as holds
+use Rattle.tree_shape.specs.Holds.{Holds, served, attributes_at}
 use Rattle.page_reader.specs.Planting.{node_count, root_names, node_acts, attribute_acts, children_acts, trees_acts, planted}
 use Rattle.page_reader.proofs.AttributesPut.{attributes_puts, attributes_spare, attributes_put}
 use Rattle.page_reader.proofs.TreesActs.{kind_new, with_node, with_element, with_text, with_inner, element_after, element_kinds, children_length, is_planted, trees_length, IsOf, children_puts, trees_puts, trees_spare, trees_spare_past, trees_weight, children_weight}

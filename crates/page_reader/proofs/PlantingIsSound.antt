@@ -23,10 +23,10 @@ use Rattle.cell_places.specs.Start.{document_cell, node_prototype}
 use Rattle.cell_places.specs.Sound.{KindIsSound, IsSound}
 use Rattle.cell_places.proofs.SamePlace.{put_at-same, put_at-other}
 use Rattle.cell_places.proofs.Grown.{slice_get-last, length-grown, slice_get-grown, below_more, absent_past, count-start, kind-start}
-use Rattle.cell_places.proofs.KeepsSound.{IsSound-made, IsSound-put_quiet}
+use Rattle.cell_places.proofs.KeepsSound.{sound_made, IsSound-put_quiet}
 use Rattle.cell_places.proofs.NextChild.{linked, other_slot, other_cell, CanLink, IsSound-linked}
 use Rattle.cell_places.proofs.Spared.{put_at-twice, Spares, after-append, after-swap, after-spares, after-kind}
-use Rattle.dom_tree.specs.Trees.{Trees, Attribute, HaveNamesOnce, none, text, element}
+use Rattle.tree_shape.specs.Trees.{Trees, Attribute, HaveNamesOnce, none, text, element}
 use Rattle.page_reader.specs.Planting.{node_count, root_names, node_acts, attribute_acts, children_acts, trees_acts, planted}
 use Rattle.page_reader.proofs.AttributesPut.{names_of, attributes_spare, attributes_sound}
 use Rattle.page_reader.proofs.TreesActs.{kind_new, with_node, with_element, with_text, with_inner, element_after, element_kinds, element_weight, children_length, trees_length, children_puts, trees_spare, trees_weight, children_weight}
@@ -152,7 +152,7 @@ can_link codes H k p cs is sound siblings parent =
 cell_sound : (codes : ℕ) (H : Heap) (k : CellKind) → IsNodeKind k → IsSound codes H → length H.kinds + 1 + weight_left H ≤ 3999999999 → IsSound codes (with_cell H k)
 cell_sound codes H k is sound room =
     IsSound-put_quiet codes (moved H (made (next H) k)) (place (next H) s.Proto) (a.One (v.Cell node_prototype))
-    (IsSound-made codes H k sound room (is.names (is_below (length H.kinds))) is.object (is.sound codes (grown H k))) refl refl (can_proto H k is (let many = count-start H.kinds sound.start in omega arith))
+    (sound_made codes H k sound room (is.names (is_below (length H.kinds))) (is.sound codes H.kinds)) refl refl (can_proto H k is (let many = count-start H.kinds sound.start in omega arith))
     (ap (λ o. is_object (or_plain o)) (slice_get-grown H.kinds k 14 kind.Plain (kind-start H.kinds sound.start 14 kind.Plain refl)))
 
 leaf_sound : (codes : ℕ) (H : Heap) (k : CellKind) (p : CellName) (cs : List CellName) → IsNodeKind k → IsSound codes H → children_at H p ≡ cs → Every (NameIn (is_below (length H.kinds))) cs → CanAskIn H.kinds (place p s.Children)

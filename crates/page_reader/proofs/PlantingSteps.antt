@@ -22,7 +22,7 @@ use Rattle.cell_places.specs.Start.{document_cell, node_prototype}
 use Rattle.cell_places.proofs.Grown.{slice_get-last, length-grown}
 use Rattle.cell_places.proofs.Runs.{heap-step, heap-run, run-append, Rooted-step, Rooted-run, Rooted-trans}
 use Rattle.cell_places.proofs.Spared.{after-kind}
-use Rattle.dom_tree.specs.Trees.{Trees, Attribute as Attr, HaveNamesOnce, none, text, element}
+use Rattle.tree_shape.specs.Trees.{Trees, Attribute as Attr, HaveNamesOnce, none, text, element}
 use Rattle.page_reader.specs.declared.node.Attribute.{Attribute}
 use Rattle.page_reader.specs.declared.node.Node.{Node}
 use Rattle.page_reader.specs.declared.node.Node.TheVariants as n

@@ -5,8 +5,8 @@ use Rattle.page_units.specs.declared.value.CellName.{CellName}
 use Rattle.cell_places.specs.declared.kind.CellKind.TheVariants.{Element}
 use Rattle.cell_places.specs.Heap.{cell}
 use Rattle.cell_places.specs.Acts.{Act}
-use Rattle.dom_tree.specs.Trees.{Trees, HaveNamesOnce, none, text, element}
-use Rattle.dom_tree.specs.Trees as dom
+use Rattle.tree_shape.specs.Trees.{Trees, HaveNamesOnce, none, text, element}
+use Rattle.tree_shape.specs.Trees as dom
 use Rattle.page_reader.specs.declared.node.Node.{Node}
 use Rattle.page_reader.specs.declared.node.Node.TheFolds.{fold_out-Node}
 use Rattle.page_reader.specs.declared.node.Node.TheOpen.{Node-F}

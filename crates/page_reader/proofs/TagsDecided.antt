@@ -1,4 +1,5 @@
 -- One character decides in comments, references, names, attributes, tags and raw content.
+use Prim.Native.Char.{code}
 use Rattle.std.proofs.Common.{◌≡◌, ℕ, Bool, true, false, cond, inl, List, [], ◌∷◌, refl}
 use Rattle.std.specs.Prelude.{◌&&◌, codes}
 use Rattle.grammar.specs.Reading.{may, Eats, Decided}
@@ -41,12 +42,12 @@ spelled_decided owner at c (x ∷ xs) = (must_decided stop _ _ refl, λ _. spell
 
 named_a_decided : (owner at : ℕ) → Decided stop (named_a owner at)
 named_a_decided owner at =
-    (apart 109 _ (λ _ _. refl), (refl, λ _. spelled_decided owner at 38 (codes "p;")), (apart 112 _ (λ _ _. refl), (refl, λ _. spelled_decided owner at 39 (codes "os;")), tt))
+    (apart (code "m") _ (λ _ _. refl), (refl, λ _. spelled_decided owner at (code "&") (codes "p;")), (apart (code "p") _ (λ _ _. refl), (refl, λ _. spelled_decided owner at (code "'") (codes "os;")), tt))
 
 pub reference_decided : (owner at : ℕ) → Decided stop (reference owner at)
 unfolding reference
 reference_decided owner at =
-    (apart 35 _ (λ _ _. refl), (refl, λ _. numeric_decided owner at), (apart 97 _ (λ _ _. refl), (refl, λ _. named_a_decided owner at), (apart 108 _ (λ _ _. refl), (refl, λ _. spelled_decided owner at 60 (codes "t;")), (apart 103 _ (λ _ _. refl), (refl, λ _. spelled_decided owner at 62 (codes "t;")), (apart 113 _ (λ _ _. refl), (refl, λ _. spelled_decided owner at 34 (codes "uot;")), (apart 110 _ (λ _ _. refl), (refl, λ _. spelled_decided owner at 0xA0 (codes "bsp;")), tt))))))
+    (apart (code "#") _ (λ _ _. refl), (refl, λ _. numeric_decided owner at), (apart (code "a") _ (λ _ _. refl), (refl, λ _. named_a_decided owner at), (apart (code "l") _ (λ _ _. refl), (refl, λ _. spelled_decided owner at (code "<") (codes "t;")), (apart (code "g") _ (λ _ _. refl), (refl, λ _. spelled_decided owner at (code ">") (codes "t;")), (apart (code "q") _ (λ _ _. refl), (refl, λ _. spelled_decided owner at (code "\"") (codes "uot;")), (apart (code "n") _ (λ _ _. refl), (refl, λ _. spelled_decided owner at (code "\u{a0}") (codes "bsp;")), tt))))))
 
 -- ---- attributes
 
@@ -59,7 +60,7 @@ value_decided tag_at quote = ((λ _. refl, λ y t h. either_way _ _ h, λ y. (in
 
 after_name_decided : (tag_at at : ℕ) → Decided stop (after_name tag_at at)
 after_name_decided tag_at at =
-    (apart 61 _ (λ _ _. refl), (refl, λ _. (need_decided stop _ _ refl, λ q. value_decided tag_at q.code)), (λ t h. second_false _ _ (unless _ _ h), (tt, λ _. tt), tt))
+    (apart (code "=") _ (λ _ _. refl), (refl, λ _. (need_decided stop _ _ refl, λ q. value_decided tag_at q.code)), (λ t h. second_false _ _ (unless _ _ h), (tt, λ _. tt), tt))
 
 named_so_decided : (tag_at : ℕ) (tag : List ℕ) (earlier : List Attribute) (at : ℕ) (name : List ℕ) → Decided stop (named_so tag_at tag earlier at name)
 named_so_decided tag_at tag earlier at name = go (is_script tag && is_src name) (has_name earlier name)
@@ -93,7 +94,7 @@ attributes_decided tag_at tag = ((attributes_stop, attributes_turn tag_at tag, a
 
 tag_end_decided : (tag_at : ℕ) (tag : List ℕ) → Decided stop (tag_end tag_at tag)
 tag_end_decided tag_at tag =
-    (apart 62 _ (λ _ _. refl), (refl, λ _. tt), (λ t h. second_false _ _ (unless _ _ h), (refl, λ _. (need_decided stop _ _ refl, λ _. tt)), tt))
+    (apart (code ">") _ (λ _ _. refl), (refl, λ _. tt), (λ t h. second_false _ _ (unless _ _ h), (refl, λ _. (need_decided stop _ _ refl, λ _. tt)), tt))
 
 pub start_tag_decided : (tag_at : ℕ) (tag : List ℕ) → Decided stop (start_tag tag_at tag)
 unfolding start_tag

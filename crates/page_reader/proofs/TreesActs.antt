@@ -12,7 +12,7 @@ use Rattle.cell_places.specs.Heap.{Heap, cell, place, weight_left}
 use Rattle.cell_places.specs.Acts.{Act, placed, moved, after}
 use Rattle.cell_places.proofs.Grown.{slice_get-last, length-grown}
 use Rattle.cell_places.proofs.Spared.{PutsIn, PutsIn-map, PutsIn-append, Spares, after-append, after-weight}
-use Rattle.dom_tree.specs.Trees.{Trees, Attribute, HaveNamesOnce, none, text, element}
+use Rattle.tree_shape.specs.Trees.{Trees, Attribute, HaveNamesOnce, none, text, element}
 use Rattle.page_reader.specs.Planting.{node_count, root_names, node_acts, attribute_acts, children_acts, trees_acts}
 use Rattle.page_reader.proofs.AttributesPut.{attributes_puts, attributes_heap}
 

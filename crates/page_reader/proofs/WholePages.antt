@@ -5,8 +5,8 @@ use Rattle.std.specs.Char.{len_utf8}
 use Rattle.std.specs.Str.{chars}
 use Rattle.std.specs.Str.Lossy.{utf8_valid_len}
 use Rattle.std.proofs.lemmas.Str.{encodes-chars, length-le-encodes}
-use Rattle.dom_tree.specs.Trees.{Trees, HaveNamesOnce}
-use Rattle.dom_tree.specs.Trees as t
+use Rattle.tree_shape.specs.Trees.{Trees, HaveNamesOnce}
+use Rattle.tree_shape.specs.Trees as t
 use Rattle.grammar.specs.Grammar.{Derives}
 use Rattle.grammar.specs.Reading.{Outcome, Got, Bad, read}
 use Rattle.grammar.proofs.Reader.{all_read, at_fault, only_bad, only_fault}

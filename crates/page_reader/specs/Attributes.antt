@@ -1,10 +1,11 @@
 -- Attributes, in the start tag that begins at the byte `tag_at` (this project's own page form).
+use Prim.Native.Char.{code}
 use Rattle.std.specs.Prelude.{ℕ, Bool, true, false, not, ◌||◌, ◌&&◌, cond, List, [], ◌∷◌, ◌++◌}
 use Rattle.std.specs.Str.{bytes_eq}
 use Rattle.std.specs.Char.Escape.{encode_utf16}
 use Rattle.grammar.specs.Grammar.{done, or, again}
 use Rattle.grammar.specs.Words.{◌>>=◌, ◌>>◌, refuse}
-use Rattle.dom_tree.specs.Names.{is_void}
+use Rattle.tree_shape.specs.Names.{is_void}
 use Rattle.placed_chars.specs.declared.chars.Char.{Char}
 use Rattle.placed_chars.specs.Chars.{is_end}
 use Rattle.page_reader.specs.declared.fault.Fault.{Fault}
@@ -47,12 +48,12 @@ value tag_at quote = do
 abbrev pub after_name : ℕ → ℕ → R (List ℕ)
 after_name tag_at at = or
     (do
-      one (is 61)
+      one (is (code "="))
       quote ← need is_quote (cut_off tag_at (fault BadAttribute at))
       value tag_at quote.code)
     (or
     (next ends_attribute >> done [])
-    (other (λ x. is 61 x || ends_attribute x) (λ t. cut_off tag_at (fault BadAttribute t.at) t)))
+    (other (λ x. is (code "=") x || ends_attribute x) (λ t. cut_off tag_at (fault BadAttribute t.at) t)))
 
 -- ---- one attribute
 

@@ -3,7 +3,7 @@ use Rattle.std.specs.Prelude.{ℕ, zero, suc, Bool, false, not, ◌||◌, ◌&&�
 use Rattle.std.specs.Char.Escape.{encode_utf16}
 use Rattle.grammar.specs.Grammar.{done, or, again}
 use Rattle.grammar.specs.Words.{◌>>=◌, ◌>>◌, refuse}
-use Rattle.dom_tree.specs.Names.{is_void, is_raw}
+use Rattle.tree_shape.specs.Names.{is_void, is_raw}
 use Rattle.placed_chars.specs.declared.chars.Char.{Char}
 use Rattle.placed_chars.specs.Chars.{is_end}
 use Rattle.page_reader.specs.declared.fault.PageRule.TheVariants.{BadTag, Unclosed, Nesting}

@@ -1,3 +1,4 @@
+pub mod Bounds
 pub mod Classes
 pub mod Faults
 pub mod Rules

@@ -1,7 +1,7 @@
 -- The trees that nodes are.
 use Rattle.std.specs.Prelude.{List, [], ◌∷◌, map}
-use Rattle.dom_tree.specs.Trees.{Trees, none, text, element}
-use Rattle.dom_tree.specs.Trees as dom
+use Rattle.tree_shape.specs.Trees.{Trees, none, text, element}
+use Rattle.tree_shape.specs.Trees as dom
 use Rattle.page_reader.specs.declared.node.Attribute.{Attribute}
 use Rattle.page_reader.specs.declared.node.Node.{Node}
 use Rattle.page_reader.specs.declared.node.Node.TheFolds.{fold-Node}

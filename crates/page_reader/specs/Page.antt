@@ -3,7 +3,7 @@
 use Rattle.std.specs.Prelude.{◌≡◌, ◌<◌, ◌≤◌, ◌⊎◌, ℕ, suc, List, [], ◌∷◌, length, Some, IsUtf8}
 use Rattle.std.specs.Str.{chars}
 use Rattle.std.specs.Str.Lossy.{utf8_valid_len}
-use Rattle.dom_tree.specs.Trees.{Trees}
+use Rattle.tree_shape.specs.Trees.{Trees}
 use Rattle.grammar.specs.Grammar.{Derives}
 use Rattle.grammar.specs.Whole.{Hopeful, FaultAt}
 use Rattle.placed_chars.specs.declared.chars.Char.{Char}
@@ -14,19 +14,12 @@ use Rattle.page_reader.specs.declared.fault.PageRule.TheVariants as r
 use Rattle.page_reader.specs.declared.node.Node.{Node}
 use Rattle.page_reader.specs.declared.node.Slice.{Slice}
 use Rattle.page_reader.specs.declared.page.ScriptText.{ScriptText}
+pub use Rattle.page_reader.specs.Bounds.{page_bytes, levels_below}
 use Rattle.page_reader.specs.Faults.{rule_number}
 use Rattle.page_reader.specs.NodeTrees.{trees_of}
 use Rattle.page_reader.specs.Rules.{fault}
 use Rattle.page_reader.specs.Content.{found}
 use Rattle.page_reader.specs.PageForm.{page}
-
--- how many bytes a page may have
-abbrev pub page_bytes : ℕ
-page_bytes = 1048576
-
--- how many levels may stand below the root
-abbrev pub levels_below : ℕ
-levels_below = 127
 
 -- scripts numbered from `index` on
 abbrev pub numbered : ℕ → List Slice → List ScriptText

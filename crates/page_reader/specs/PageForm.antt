@@ -1,4 +1,5 @@
 -- The whole page: a doctype, pads and one element (this project's own page form).
+use Prim.Native.Char.{code}
 use Rattle.std.specs.Prelude.{ℕ, Bool, true, false, not, ◌||◌, cond, List, [], ◌∷◌, codes}
 use Rattle.grammar.specs.Grammar.{done, or, again}
 use Rattle.grammar.specs.Words.{◌>>=◌, ◌>>◌, refuse}
@@ -27,8 +28,8 @@ word at (c ∷ cs) = must (is_any_case c) (no_doctype at) >> word at cs
 -- Doctype = <!DOCTYPE html>, in any case | Comment   behind the `<!` at the front of the page
 abbrev pub front_bang : ℕ → R (Unit {0})
 front_bang at = or
-    (one (is_any_case 100) >> word at (codes "octype html>"))
-    (next (λ x. not (is_any_case 100 x)) >> comment at)
+    (one (is_any_case (code "d")) >> word at (codes "octype html>"))
+    (next (λ x. not (is_any_case (code "d") x)) >> comment at)
 
 -- a comment, or at the front also the doctype
 abbrev pub bang : Bool → ℕ → R (Unit {0})

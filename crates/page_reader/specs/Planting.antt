@@ -10,7 +10,7 @@ use Rattle.cell_places.specs.declared.kind.CellKind.TheVariants.{Element, Chars}
 use Rattle.cell_places.specs.Heap.{Heap, cell, place}
 use Rattle.cell_places.specs.Acts.{Act, made, placed, after}
 use Rattle.cell_places.specs.Start.{document_cell, node_prototype}
-use Rattle.dom_tree.specs.Trees.{Trees, Attribute, none, text, element}
+use Rattle.tree_shape.specs.Trees.{Trees, Attribute, none, text, element}
 
 -- how many nodes the trees have
 abbrev pub node_count : Trees → ℕ

@@ -2,8 +2,8 @@
 use Rattle.std.specs.Prelude.{◌≡◌, ℕ, List, [], ◌∷◌, Result, Ok, Err}
 use Rattle.cell_places.specs.View.{View, heap, run}
 use Rattle.cell_places.specs.Start.{document_cell}
-use Rattle.dom_tree.specs.Trees.{Trees}
-use Rattle.dom_tree.specs.Holds.{Holds, served}
+use Rattle.tree_shape.specs.Trees.{Trees}
+use Rattle.tree_shape.specs.Holds.{Holds, served}
 use Rattle.page_reader.specs.declared.fault.PageFault.{PageFault}
 use Rattle.page_reader.specs.declared.fault.PageFault.TheVariants.{Rule, NoMemory}
 use Rattle.page_reader.specs.declared.page.PageParts.{PageParts}

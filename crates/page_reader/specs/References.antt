@@ -1,5 +1,6 @@
 -- References to characters, in what began at the byte `owner`, where their `&` stands at the byte `at` (this project's own
 -- page form, after HTML's character references).
+use Prim.Native.Char.{code}
 use Rattle.std.specs.Prelude.{ℕ, ◌+◌, ◌*◌, Bool, not, ◌||◌, ◌&&◌, nat_le, nat_lt, List, [], ◌∷◌, codes}
 use Rattle.std.specs.Char.{digit_value}
 use Rattle.grammar.specs.Grammar.{token, done, or, again}
@@ -33,7 +34,7 @@ is_scalar n = nat_lt 0 n && (nat_lt n 0xD800 || (nat_lt 0xDFFF n && nat_le n mos
 
 -- the `;` behind such a number
 abbrev pub number_ends : ℕ → ℕ → Bool
-number_ends n x = is 59 x && is_scalar n
+number_ends n x = is (code ";") x && is_scalar n
 
 -- {digit} ;
 unfoldable pub number : ℕ → ℕ → ℕ → R ℕ
@@ -45,8 +46,8 @@ number owner at base = do
 -- # {digit} ; | #x {hexadecimal digit} ;   behind the `#`
 abbrev pub numeric : ℕ → ℕ → R ℕ
 numeric owner at = or
-    (one (is 120) >> number owner at 16)
-    (next (λ x. not (is 120 x)) >> number owner at 10)
+    (one (is (code "x")) >> number owner at 16)
+    (next (λ x. not (is (code "x") x)) >> number owner at 10)
 
 -- this character, and none behind the end
 abbrev pub stands : ℕ → ℕ → Bool
@@ -60,26 +61,26 @@ spelled owner at c (x ∷ xs) = must (stands x) (bad_reference owner at) >> spel
 -- amp; | apos;   behind the `a`
 abbrev pub named_a : ℕ → ℕ → R ℕ
 named_a owner at = or
-    (one (is 109) >> spelled owner at 38 (codes "p;"))
+    (one (is (code "m")) >> spelled owner at (code "&") (codes "p;"))
     (or
-    (one (is 112) >> spelled owner at 39 (codes "os;"))
-    (other (λ x. is 109 x || is 112 x) (bad_reference owner at)))
+    (one (is (code "p")) >> spelled owner at (code "'") (codes "os;"))
+    (other (λ x. is (code "m") x || is (code "p") x) (bad_reference owner at)))
 
 abbrev pub begins_reference : ℕ → Bool
-begins_reference x = is 35 x || is 97 x || is 108 x || is 103 x || is 113 x || is 110 x
+begins_reference x = is (code "#") x || is (code "a") x || is (code "l") x || is (code "g") x || is (code "q") x || is (code "n") x
 
 -- Reference = & (numeric | amp; | apos; | lt; | gt; | quot; | nbsp;)   behind the `&`
 unfoldable pub reference : ℕ → ℕ → R ℕ
 reference owner at = or
-    (one (is 35) >> numeric owner at)
+    (one (is (code "#")) >> numeric owner at)
     (or
-    (one (is 97) >> named_a owner at)
+    (one (is (code "a")) >> named_a owner at)
     (or
-    (one (is 108) >> spelled owner at 60 (codes "t;"))
+    (one (is (code "l")) >> spelled owner at (code "<") (codes "t;"))
     (or
-    (one (is 103) >> spelled owner at 62 (codes "t;"))
+    (one (is (code "g")) >> spelled owner at (code ">") (codes "t;"))
     (or
-    (one (is 113) >> spelled owner at 34 (codes "uot;"))
+    (one (is (code "q")) >> spelled owner at (code "\"") (codes "uot;"))
     (or
-    (one (is 110) >> spelled owner at 0xA0 (codes "bsp;"))
+    (one (is (code "n")) >> spelled owner at (code "\u{a0}") (codes "bsp;"))
     (other begins_reference (bad_reference owner at)))))))

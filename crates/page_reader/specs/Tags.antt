@@ -2,7 +2,7 @@
 use Rattle.std.specs.Prelude.{ℕ, Bool, ◌||◌, ◌&&◌, cond, ◌==◌, List, [], ◌∷◌}
 use Rattle.grammar.specs.Grammar.{done, or, again}
 use Rattle.grammar.specs.Words.{◌>>=◌, ◌>>◌}
-use Rattle.dom_tree.specs.Names.{is_void}
+use Rattle.tree_shape.specs.Names.{is_void}
 use Rattle.placed_chars.specs.declared.chars.Char.{Char}
 use Rattle.page_reader.specs.declared.fault.Fault.{Fault}
 use Rattle.page_reader.specs.declared.fault.PageRule.TheVariants.{BadTag, BadAttribute, Mismatch}

@@ -15,10 +15,10 @@ use crate::named::NamedAttributes;
 use crate::names::{is_script, is_src};
 use crate::node::Attribute;
 use crate::reader::{Reader, broken, push_code};
-use dom_tree::is_void;
 use page_units::Text;
 use sqlite_items::Items;
 use std::alloc::Global;
+use tree_shape::is_void;
 
 impl<'a> Reader<'a> {
     fn in_value(&self, quote: u32) -> bool
@@ -36,11 +36,12 @@ impl<'a> Reader<'a> {
         units: &mut Vec<u16>,
     ) -> Result<(), ReadError>
         requires { IsTrue (form.in_value quote (first self.old stop).code) }
-        ensures { ReadsAs (λ _. units.new.items) (read stop (form.value_piece tag_at quote units.old.items) self.old) result self.new }
+        ensures { ReadsAs (λ _. units.new.items) (read stop
+            (form.value_piece tag_at quote units.old.items) self.old) result self.new }
     {
         let next = self.here();
         self.advance();
-        if next.code != 38 {
+        if next.code != '&' as u32 {
             push_code(units, next.code)?;
             return Ok(());
         }
@@ -86,7 +87,8 @@ impl<'a> Reader<'a> {
 
     /// What is broken by an attribute whose name this tag can't have.
     fn wrong(&self, tag_at: u32, tag: &Text, rule: PageRule, at: u32) -> ReadError
-        ensures { result ≡ errors.Page (form.wrong tag_at tag.now (rules.fault rule at) (first self.now stop)) }
+        ensures { result ≡ errors.Page (form.wrong tag_at tag.now (rules.fault rule at)
+            (first self.now stop)) }
     {
         if self.is_at('/') && !is_void(tag) {
             self.cut_off(tag_at, PageRule::BadTag, tag_at)
@@ -105,7 +107,8 @@ impl<'a> Reader<'a> {
         at: u32,
         name: Text,
     ) -> Result<Attribute, ReadError>
-        ensures { Reads (read stop (form.named_so tag_at tag.now earlier.now at name) self.old) result self.new }
+        ensures { Reads (read stop (form.named_so tag_at tag.now earlier.now at name) self.old)
+            result self.new }
     {
         if is_script(tag) && is_src(&name) {
             return Err(self.wrong(tag_at, tag, PageRule::BadAttribute, at));
@@ -128,7 +131,8 @@ impl<'a> Reader<'a> {
         at: u32,
         letter: u16,
     ) -> Result<Attribute, ReadError>
-        ensures { Reads (read stop (form.attribute tag_at tag.now earlier.now at letter) self.old) result self.new }
+        ensures { Reads (read stop (form.attribute tag_at tag.now earlier.now at letter) self.old)
+            result self.new }
     {
         let name = self.name(alloc, letter)?;
         self.named_so(alloc, tag_at, tag, earlier, at, name)
@@ -151,7 +155,9 @@ impl<'a> Reader<'a> {
         is_spaced: bool,
     ) -> Result<bool, ReadError>
         requires { IsTrue (form.attributes_go (Listing earlier.old is_spaced) (first self.old stop)) }
-        ensures { ReadsAs (λ spaced. Listing earlier.new spaced) (read stop (form.attributes_piece tag_at tag.now (Listing earlier.old is_spaced)) self.old) result self.new }
+        ensures { ReadsAs (λ spaced. Listing earlier.new spaced)
+            (read stop (form.attributes_piece tag_at tag.now (Listing earlier.old is_spaced))
+            self.old) result self.new }
     {
         let letter = self.code();
         let at = self.place();

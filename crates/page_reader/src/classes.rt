@@ -5,38 +5,48 @@ ghost use Rattle.page_reader.specs.Classes as class;
 ghost use Rattle.page_reader.specs.References as references;
 ghost use Rattle.placed_chars.specs.Chars.{is_end};
 
+/// The code of the end of a page: one above the greatest of a character.
+pub(crate) const END: u32 = GREATEST_CODE + 1;
+
+/// The greatest code of a character.
+pub(crate) const GREATEST_CODE: u32 = 0x10_FFFF;
+
 /// Whether it is the end of the page, and no character of it.
 pub(crate) fn is_end(code: u32) -> bool
     ensures { result ≡ is_end code }
 {
-    0x110000 <= code
+    END <= code
 }
 
 /// Whether it is a space, a tab, a line feed, a form feed or a carriage return.
 pub(crate) fn is_white(code: u32) -> bool
     ensures { result ≡ class.is_white code }
 {
-    code == 32 || code == 9 || code == 10 || code == 12 || code == 13
+    code == ' ' as u32
+        || code == '\t' as u32
+        || code == '\n' as u32
+        || code == '\x0C' as u32
+        || code == '\r' as u32
 }
 
 fn is_capital(code: u32) -> bool
     ensures { result ≡ class.is_capital code }
 {
-    65 <= code && code <= 90
+    'A' as u32 <= code && code <= 'Z' as u32
 }
 
 /// Whether it is an ASCII letter.
 pub(crate) fn is_letter(code: u32) -> bool
     ensures { result ≡ class.is_letter code }
 {
-    is_capital(code) || (97 <= code && code <= 122)
+    is_capital(code) || ('a' as u32 <= code && code <= 'z' as u32)
 }
 
 /// Whether it may stand in a name behind its first letter.
 pub(crate) fn is_part(code: u32) -> bool
     ensures { result ≡ class.is_part code }
 {
-    is_letter(code) || (48 <= code && code <= 57) || code == 45
+    is_letter(code) || ('0' as u32 <= code && code <= '9' as u32) || code == '-' as u32
 }
 
 /// The code, and that of an ASCII capital lowered.
@@ -44,28 +54,32 @@ pub(crate) fn lower(code: u32) -> u32
     ensures value { result ≡ class.lower code }
     ensures small { code < 65536 → result < 65536 }
 {
-    if is_capital(code) { code + 32 } else { code }
+    if is_capital(code) {
+        code - 'A' as u32 + 'a' as u32
+    } else {
+        code
+    }
 }
 
 /// Whether it is `"` or `'`.
 pub(crate) fn is_quote(code: u32) -> bool
     ensures { result ≡ class.is_quote code }
 {
-    code == 34 || code == 39
+    code == '"' as u32 || code == '\'' as u32
 }
 
 /// Whether it is white space or `>`.
 pub(crate) fn ends_name(code: u32) -> bool
     ensures { result ≡ class.ends_name code }
 {
-    is_white(code) || code == 62
+    is_white(code) || code == '>' as u32
 }
 
 /// Whether it is white space, `>` or `/`.
 pub(crate) fn ends_attribute(code: u32) -> bool
     ensures { result ≡ class.ends_attribute code }
 {
-    is_white(code) || code == 62 || code == 47
+    is_white(code) || code == '>' as u32 || code == '/' as u32
 }
 
 /// The value of a digit or letter, 36 for anything else.
@@ -73,18 +87,18 @@ pub(crate) fn digit_value(code: u32) -> u32
     ensures value { result ≡ digit_value code }
     ensures few { result ≤ 36 }
 {
-    if code < 48 {
+    if code < '0' as u32 {
         36
-    } else if code < 58 {
-        code - 48
-    } else if code < 65 {
+    } else if code <= '9' as u32 {
+        code - '0' as u32
+    } else if code < 'A' as u32 {
         36
-    } else if code < 91 {
-        code - 55
-    } else if code < 97 {
+    } else if code <= 'Z' as u32 {
+        code - 'A' as u32 + 10
+    } else if code < 'a' as u32 {
         36
-    } else if code < 123 {
-        code - 87
+    } else if code <= 'z' as u32 {
+        code - 'a' as u32 + 10
     } else {
         36
     }
@@ -94,5 +108,5 @@ pub(crate) fn digit_value(code: u32) -> u32
 pub(crate) fn is_scalar(code: u32) -> bool
     ensures { result ≡ references.is_scalar code }
 {
-    0 < code && (code < 0xD800 || (0xDFFF < code && code <= 0x10FFFF))
+    0 < code && (code < 0xD800 || (0xDFFF < code && code <= GREATEST_CODE))
 }

@@ -14,7 +14,7 @@ use crate::reader::Reader;
 fn dashes_after(dashes: u8, code: u32) -> u8
     ensures { result ≡ form.dashes_after dashes code }
 {
-    if code == 45 {
+    if code == '-' as u32 {
         if dashes == 0 { 1 } else { 2 }
     } else {
         0
@@ -26,7 +26,7 @@ impl<'a> Reader<'a> {
         ensures { result ≡ form.comment_goes dashes (first self.now stop) }
     {
         let code = self.code();
-        !(is_end(code) || (dashes == 2 && code == 62))
+        !(is_end(code) || (dashes == 2 && code == '>' as u32))
     }
 
     /// Takes a comment behind its `<!`; its `<` stands at the byte `at`.

@@ -13,11 +13,11 @@ use crate::fault::{PageRule, ReadError};
 use crate::names::is_script;
 use crate::node::{Node, Slice, Started};
 use crate::reader::{Reader, broken, push_code};
-use dom_tree::{is_raw, is_void};
 use page_units::{NoMemory, Text};
 use sqlite_items::Items;
 use std::alloc::Global;
 use std::mem;
+use tree_shape::{is_raw, is_void};
 
 /// Makes a node of the text, unless it is empty.
 #[tactic(auto, using(crate::proofs::Levels::flushed_text, crate::proofs::Levels::flushed_none))]
@@ -47,7 +47,9 @@ impl<'a> Reader<'a> {
         units: &mut Vec<u16>,
         scripts: &mut Items<Slice>,
     ) -> Result<bool, ReadError>
-        ensures { ReadsAs (λ ended. content ended children.new units.new.items scripts.new) (read stop (form.markup (form.opened room) tag.now at children.old units.old.items scripts.old) self.old) result self.new }
+        ensures { ReadsAs (λ ended. content ended children.new units.new.items scripts.new)
+            (read stop (form.markup (form.opened room) tag.now at children.old units.old.items
+            scripts.old) self.old) result self.new }
     {
         if self.is_at('!') {
             self.advance();
@@ -83,17 +85,19 @@ impl<'a> Reader<'a> {
         scripts: &mut Items<Slice>,
     ) -> Result<bool, ReadError>
         requires { is_end (first self.old stop).code ≡ false }
-        ensures { ReadsAs (λ ended. content ended children.new units.new.items scripts.new) (read stop (form.piece (form.opened room) tag_at tag.now (Inside children.old units.old.items scripts.old)) self.old) result self.new }
+        ensures { ReadsAs (λ ended. content ended children.new units.new.items scripts.new)
+            (read stop (form.piece (form.opened room) tag_at tag.now
+            (Inside children.old units.old.items scripts.old)) self.old) result self.new }
     {
         let code = self.code();
         let at = self.place();
         self.advance();
-        if code == 38 {
+        if code == '&' as u32 {
             let c = self.reference(tag_at, at)?;
             push_code(units, c)?;
             return Ok(false);
         }
-        if code == 60 {
+        if code == '<' as u32 {
             return self.markup(alloc, room, tag, at, children, units, scripts);
         }
         push_code(units, code)?;
@@ -111,7 +115,9 @@ impl<'a> Reader<'a> {
         started: Started,
         scripts: &mut Items<Slice>,
     ) -> Result<Node, ReadError>
-        ensures { ReadsAs (λ node. found node scripts.new) (read stop (form.full_body (form.opened room) tag_at tag started scripts.old) self.old) result self.new }
+        ensures { ReadsAs (λ node. found node scripts.new)
+            (read stop (form.full_body (form.opened room) tag_at tag started scripts.old) self.old)
+            result self.new }
     {
         let mut children = Items::new(alloc);
         let mut units = Vec::new(alloc);
@@ -142,7 +148,8 @@ impl<'a> Reader<'a> {
         started: Started,
         scripts: &mut Items<Slice>,
     ) -> Result<Node, ReadError>
-        ensures { ReadsAs (λ node. found node scripts.new) (read stop (form.raw_body tag_at tag started scripts.old) self.old) result self.new }
+        ensures { ReadsAs (λ node. found node scripts.new)
+            (read stop (form.raw_body tag_at tag started scripts.old) self.old) result self.new }
     {
         let content = self.raw(alloc, tag_at, &tag)?;
         if is_script(&tag) {
@@ -166,7 +173,9 @@ impl<'a> Reader<'a> {
         started: Started,
         scripts: &mut Items<Slice>,
     ) -> Result<Node, ReadError>
-        ensures { ReadsAs (λ node. found node scripts.new) (read stop (form.body (form.opened room) tag_at tag started scripts.old) self.old) result self.new }
+        ensures { ReadsAs (λ node. found node scripts.new)
+            (read stop (form.body (form.opened room) tag_at tag started scripts.old) self.old)
+            result self.new }
     {
         if is_void(&tag) {
             return Ok(Node::Element(tag, started.attributes, Items::new(alloc)));
@@ -187,7 +196,9 @@ impl<'a> Reader<'a> {
         scripts: &mut Items<Slice>,
         letter: u16,
     ) -> Result<Node, ReadError>
-        ensures { ReadsAs (λ node. found node scripts.new) (read stop (form.element (form.opened room) tag_at scripts.old letter) self.old) result self.new }
+        ensures { ReadsAs (λ node. found node scripts.new)
+            (read stop (form.element (form.opened room) tag_at scripts.old letter) self.old)
+            result self.new }
     {
         let tag = self.name(alloc, letter)?;
         let started = self.start_tag(alloc, tag_at, &tag)?;
@@ -205,7 +216,8 @@ impl<'a> Reader<'a> {
         scripts: &mut Items<Slice>,
     ) -> Result<Node, ReadError>
         requires { IsTrue (class.is_letter (first self.old stop).code) }
-        ensures { ReadsAs (λ node. found node scripts.new) (read stop (form.opened room at scripts.old) self.old) result self.new }
+        ensures { ReadsAs (λ node. found node scripts.new)
+            (read stop (form.opened room at scripts.old) self.old) result self.new }
     {
         if room == 0 {
             return Err(broken(PageRule::Nesting, at));

@@ -27,7 +27,8 @@ pub enum Outside {
 impl<'a> Reader<'a> {
     /// Takes this letter of the doctype, whose `<` stands at the byte `at`, in any case.
     fn doctype_letter(&mut self, at: u32, letter: u8) -> Result<(), ReadError>
-        ensures { Reads (read stop (rules.must (class.is_any_case letter) (form.no_doctype at)) self.old) result self.new }
+        ensures { Reads (read stop (rules.must (class.is_any_case letter) (form.no_doctype at))
+            self.old) result self.new }
     {
         let code = self.code();
         if is_end(code) {
@@ -149,7 +150,8 @@ impl<'a> Reader<'a> {
         scripts: &mut Items<Slice>,
     ) -> Result<Node, ReadError>
         requires { scripts.old ≡ [] }
-        ensures { ReadsAs (λ node. found node scripts.new) (read stop (form.root room outside) self.old) result self.new }
+        ensures { ReadsAs (λ node. found node scripts.new)
+            (read stop (form.root room outside) self.old) result self.new }
     {
         match outside {
             Outside::Seeking => Err(broken(PageRule::RootCount, self.place())),
@@ -205,7 +207,8 @@ impl<'a> Reader<'a> {
         scripts: &mut Items<Slice>,
     ) -> Result<Node, ReadError>
         requires { scripts.old ≡ [] }
-        ensures value { ReadsAs (λ node. found node scripts.new) (read stop (form.page room) self.old) result self.new }
+        ensures value { ReadsAs (λ node. found node scripts.new)
+            (read stop (form.page room) self.old) result self.new }
         ensures over { OnOk result (self.new ≡ []) }
     {
         let mut outside = self.front()?;

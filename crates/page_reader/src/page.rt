@@ -5,7 +5,7 @@ ghost use Rattle.cell_places.specs.View.{heap};
 ghost use Rattle.cell_places.specs.Rooted.{Rooted};
 ghost use Rattle.cell_places.specs.Start.{document_cell};
 ghost use Rattle.cell_places.specs.Sound.{IsSound, SumsWithin};
-ghost use Rattle.dom_tree.specs.Trees.{Trees};
+ghost use Rattle.tree_shape.specs.Trees.{Trees};
 ghost use Rattle.page_reader.specs.declared.page.ScriptText.{ScriptText};
 ghost use Rattle.page_reader.specs.Page.{IsPage, IsPageFault};
 ghost use Rattle.page_reader.specs.Reading.{PageRead, NoFault, OnlyFault};
@@ -44,18 +44,23 @@ pub fn read_page<C: Cells>(
 ) -> Result<PageParts, PageFault>
     requires sound { (codes : ℕ) × IsSound codes (heap (C.seen cells.old)) }
     requires empty { children_at (heap (C.seen cells.old)) document_cell ≡ [] }
-    requires room { length (heap (C.seen cells.old)).kinds + weight_left (heap (C.seen cells.old)) < 3998000000 }
+    requires room { length (heap (C.seen cells.old)).kinds + weight_left (heap (C.seen cells.old))
+        < 3998000000 }
     // What is read is the page, and a fault is that of the bytes.
     ensures page { PageRead result (C.seen cells.old) (C.seen cells.new) bytes.now }
     // What is a page is read.
-    ensures only { (trees : Trees) (scripts : List ScriptText) → IsPage bytes.now trees scripts → NoFault result }
+    ensures only { (trees : Trees) (scripts : List ScriptText) → IsPage bytes.now trees scripts
+        → NoFault result }
     // A page has one tree and one list of scripts.
-    ensures one { (trees trees' : Trees) (scripts scripts' : List ScriptText) → IsPage bytes.now trees scripts
+    ensures one { (trees trees' : Trees) (scripts scripts' : List ScriptText)
+        → IsPage bytes.now trees scripts
         → IsPage bytes.now trees' scripts' → (trees ≡ trees') × (scripts ≡ scripts') }
     // What shows a fault is refused with it.
     ensures only_fault { (rule at : ℕ) → IsPageFault bytes.now rule at → OnlyFault result rule at }
-    ensures sound { OnOk result ((codes : ℕ) → IsSound codes (heap (C.seen cells.old)) → IsSound codes (heap (C.seen cells.new))) }
-    ensures sums { OnOk result ((bound : ℕ) → SumsWithin bound (heap (C.seen cells.old)) → SumsWithin (bound + length bytes.now) (heap (C.seen cells.new))) }
+    ensures sound { OnOk result ((codes : ℕ) → IsSound codes (heap (C.seen cells.old))
+        → IsSound codes (heap (C.seen cells.new))) }
+    ensures sums { OnOk result ((bound : ℕ) → SumsWithin bound (heap (C.seen cells.old))
+        → SumsWithin (bound + length bytes.now) (heap (C.seen cells.new))) }
     ensures rooted { Rooted (C.seen cells.old) (C.seen cells.new) }
 {
     let page = read_tree(alloc, bytes)?;

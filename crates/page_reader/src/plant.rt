@@ -9,9 +9,18 @@ ghost use Rattle.cell_places.specs.Rooted.{Rooted};
 ghost use Rattle.cell_places.specs.Within.{is_below, NameIn};
 ghost use Rattle.cell_places.specs.Lists.{Every};
 ghost use Rattle.cell_places.specs.Start.{document_cell, node_prototype};
-ghost use Rattle.dom_tree.specs.Trees.{HaveNamesOnce};
+ghost use Rattle.tree_shape.specs.Trees.{HaveNamesOnce};
 ghost use Rattle.page_reader.specs.NodeTrees.{pairs, trees_of};
-ghost use Rattle.page_reader.specs.Planting.{planting, node_count, root_names, node_acts, name_acts, attribute_acts, children_acts, trees_acts};
+ghost use Rattle.page_reader.specs.Planting.{
+  planting,
+  node_count,
+  root_names,
+  node_acts,
+  name_acts,
+  attribute_acts,
+  children_acts,
+  trees_acts,
+};
 
 use crate::node::{Attribute, Node};
 use cell_places::{Answer, CellKind, Cells, DOCUMENT, NODE_PROTOTYPE, Place, Slot};
@@ -19,14 +28,16 @@ use page_units::{CellName, NoMemory, Shared, Text, Value};
 use sqlite_items::Items;
 use std::alloc::Global;
 
-/// Puts a page's root with all that is in it under the document. After want of memory the heap is
-/// to be given up.
+/// Puts a page's root with all that is in it under the document. Where memory was refused, the heap
+/// is to be given up.
 pub(crate) fn plant<C: Cells>(alloc: Global, cells: &mut C, root: &Node) -> Result<(), NoMemory>
     requires document { CanAsk (heap (C.seen cells.old)) (place document_cell Slot.Children) }
     requires prototype { node_prototype.0 < length (heap (C.seen cells.old)).kinds }
-    requires room { length (heap (C.seen cells.old)).kinds + node_count (trees_of (root.now ∷ [])) ≤ 4000000000 }
+    requires room { length (heap (C.seen cells.old)).kinds + node_count (trees_of (root.now ∷ []))
+        ≤ 4000000000 }
     requires once { HaveNamesOnce (trees_of (root.now ∷ [])) }
-    ensures acts { OnOk result (C.seen cells.new ≡ run (C.seen cells.old) (planting (heap (C.seen cells.old)) (trees_of (root.now ∷ [])))) }
+    ensures acts { OnOk result (C.seen cells.new ≡ run (C.seen cells.old)
+        (planting (heap (C.seen cells.old)) (trees_of (root.now ∷ [])))) }
     ensures rooted { Rooted (C.seen cells.old) (C.seen cells.new) }
 {
     let node = plant_node(alloc, cells, DOCUMENT, root)?;
@@ -45,10 +56,13 @@ fn plant_siblings<C: Cells>(
 ) -> Result<Vec<CellName>, NoMemory>
     requires parent { CanAsk (heap (C.seen cells.old)) (place parent Slot.Children) }
     requires prototype { node_prototype.0 < length (heap (C.seen cells.old)).kinds }
-    requires room { length (heap (C.seen cells.old)).kinds + node_count (trees_of nodes.now) ≤ 4000000000 }
+    requires room { length (heap (C.seen cells.old)).kinds + node_count (trees_of nodes.now)
+        ≤ 4000000000 }
     requires once { HaveNamesOnce (trees_of nodes.now) }
-    ensures acts { OnOk result (C.seen cells.new ≡ run (C.seen cells.old) (trees_acts parent (length (heap (C.seen cells.old)).kinds) (trees_of nodes.now))) }
-    ensures names { IfOk result (λ names. names.items ≡ root_names (length (heap (C.seen cells.old)).kinds) (trees_of nodes.now)) }
+    ensures acts { OnOk result (C.seen cells.new ≡ run (C.seen cells.old)
+        (trees_acts parent (length (heap (C.seen cells.old)).kinds) (trees_of nodes.now))) }
+    ensures names { IfOk result (λ names. names.items ≡ root_names
+        (length (heap (C.seen cells.old)).kinds) (trees_of nodes.now)) }
     ensures rooted { Rooted (C.seen cells.old) (C.seen cells.new) }
 {
     let mut names = Vec::new(alloc);
@@ -68,9 +82,11 @@ fn plant_node<C: Cells>(
 ) -> Result<CellName, NoMemory>
     requires parent { CanAsk (heap (C.seen cells.old)) (place parent Slot.Children) }
     requires prototype { node_prototype.0 < length (heap (C.seen cells.old)).kinds }
-    requires room { length (heap (C.seen cells.old)).kinds + node_count (trees_of (node.now ∷ [])) ≤ 4000000000 }
+    requires room { length (heap (C.seen cells.old)).kinds + node_count (trees_of (node.now ∷ []))
+        ≤ 4000000000 }
     requires once { HaveNamesOnce (trees_of (node.now ∷ [])) }
-    ensures acts { OnOk result (C.seen cells.new ≡ run (C.seen cells.old) (trees_acts parent (length (heap (C.seen cells.old)).kinds) (trees_of (node.now ∷ [])))) }
+    ensures acts { OnOk result (C.seen cells.new ≡ run (C.seen cells.old)
+        (trees_acts parent (length (heap (C.seen cells.old)).kinds) (trees_of (node.now ∷ [])))) }
     ensures name { IfOk result (λ name. name ≡ next (heap (C.seen cells.old))) }
     ensures rooted { Rooted (C.seen cells.old) (C.seen cells.new) }
 {
@@ -104,7 +120,8 @@ fn make_node<C: Cells>(
     requires prototype { node_prototype.0 < length (heap (C.seen cells.old)).kinds }
     requires room { length (heap (C.seen cells.old)).kinds < 4000000000 }
     requires child { is_child kind ≡ true }
-    ensures acts { OnOk result (C.seen cells.new ≡ run (C.seen cells.old) (node_acts (length (heap (C.seen cells.old)).kinds) kind parent)) }
+    ensures acts { OnOk result (C.seen cells.new ≡ run (C.seen cells.old)
+        (node_acts (length (heap (C.seen cells.old)).kinds) kind parent)) }
     ensures name { IfOk result (λ name. name ≡ next (heap (C.seen cells.old))) }
     ensures rooted { Rooted (C.seen cells.old) (C.seen cells.new) }
 {
@@ -122,7 +139,8 @@ fn put_attributes<C: Cells>(
     attributes: &[Attribute],
 ) -> Result<(), NoMemory>
     requires element { CanAsk (heap (C.seen cells.old)) (place node Slot.AttrNames) }
-    ensures acts { OnOk result (C.seen cells.new ≡ run (C.seen cells.old) (attribute_acts node (pairs attributes.now))) }
+    ensures acts { OnOk result (C.seen cells.new ≡ run (C.seen cells.old)
+        (attribute_acts node (pairs attributes.now))) }
     ensures rooted { Rooted (C.seen cells.old) (C.seen cells.new) }
 {
     let mut names = Vec::with_capacity(alloc, attributes.len())?;
@@ -140,7 +158,9 @@ fn put_attribute<C: Cells>(
     attribute: &Attribute,
 ) -> Result<(), NoMemory>
     requires element { CanAsk (heap (C.seen cells.old)) (place node Slot.AttrNames) }
-    ensures ok { OnOk result (C.seen cells.new ≡ step (C.seen cells.old) (placed (place node (Slot.Attr attribute.now.name)) (Answer.One (Value.Str attribute.now.value)))) }
+    ensures ok { OnOk result (C.seen cells.new ≡ step (C.seen cells.old)
+        (placed (place node (Slot.Attr attribute.now.name))
+        (Answer.One (Value.Str attribute.now.value)))) }
     ensures err { OnErr result (C.seen cells.new ≡ C.seen cells.old) }
 {
     let slot = Slot::Attr(attribute.name.clone()?);
@@ -151,7 +171,8 @@ fn put_attribute<C: Cells>(
 /// Puts the names of an element's attributes, where it has any.
 fn put_names<C: Cells>(cells: &mut C, node: CellName, names: Vec<Text>) -> Result<(), NoMemory>
     requires element { CanAsk (heap (C.seen cells.old)) (place node Slot.AttrNames) }
-    ensures acts { OnOk result (C.seen cells.new ≡ run (C.seen cells.old) (name_acts node names.items)) }
+    ensures acts { OnOk result (C.seen cells.new ≡ run (C.seen cells.old)
+        (name_acts node names.items)) }
     ensures err { OnErr result (C.seen cells.new ≡ C.seen cells.old) }
 {
     if names.is_empty() {
@@ -172,7 +193,8 @@ fn put_cell<C: Cells>(
     value: CellName,
 ) -> Result<(), NoMemory>
     requires { CanPut (heap (C.seen cells.old)) (place cell slot) (Answer.One (Value.Cell value)) }
-    ensures ok { OnOk result (C.seen cells.new ≡ step (C.seen cells.old) (placed (place cell slot) (Answer.One (Value.Cell value)))) }
+    ensures ok { OnOk result (C.seen cells.new ≡ step (C.seen cells.old)
+        (placed (place cell slot) (Answer.One (Value.Cell value)))) }
     ensures err { OnErr result (C.seen cells.new ≡ C.seen cells.old) }
 {
     cells.put(&Place { cell, slot }, Answer::One(Value::Cell(value)))
@@ -186,7 +208,8 @@ fn put_children<C: Cells>(
 ) -> Result<(), NoMemory>
     requires node { CanAsk (heap (C.seen cells.old)) (place node Slot.Children) }
     requires names { Every (NameIn (is_below (length (heap (C.seen cells.old)).kinds))) names.items }
-    ensures acts { OnOk result (C.seen cells.new ≡ run (C.seen cells.old) (children_acts node names.items)) }
+    ensures acts { OnOk result (C.seen cells.new ≡ run (C.seen cells.old)
+        (children_acts node names.items)) }
     ensures err { OnErr result (C.seen cells.new ≡ C.seen cells.old) }
 {
     if names.is_empty() {

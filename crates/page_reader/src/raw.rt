@@ -37,7 +37,7 @@ fn is_slash_and_name(name: &[u16], units: &[u16]) -> bool
     ensures { result ≡ form.is_slash_and_name name.now units.now }
 {
     match units.split_first() {
-        Some((unit, rest)) => *unit == 47 && is_called(name, rest),
+        Some((unit, rest)) => *unit == u16::from(b'/') && is_called(name, rest),
         None => false,
     }
 }
@@ -47,7 +47,7 @@ fn is_end_tag(name: &[u16], units: &[u16]) -> bool
     ensures { result ≡ form.is_end_tag name.now units.now }
 {
     match units.split_first() {
-        Some((unit, rest)) => *unit == 60 && is_slash_and_name(name, rest),
+        Some((unit, rest)) => *unit == u16::from(b'<') && is_slash_and_name(name, rest),
         None => false,
     }
 }
@@ -85,7 +85,8 @@ fn before_end_tag(
     mut units: Vec<u16>,
     at: u32,
 ) -> Result<RawContent, NoMemory>
-    ensures { IfOk result (λ content. content ≡ form.before_end_tag units.items (form.end_tag_at name.now units.items) at) }
+    ensures { IfOk result (λ content. content ≡ form.before_end_tag units.items
+        (form.end_tag_at name.now units.items) at) }
 {
     match end_tag_at(name.units(), units.as_slice()) {
         Some(count) => {
@@ -111,7 +112,7 @@ impl<'a> Reader<'a> {
         if is_end(code) {
             return false;
         }
-        code != 62 || end_tag_at(name, units).is_none()
+        code != '>' as u32 || end_tag_at(name, units).is_none()
     }
 
     /// Takes raw content and the end tag of this name.

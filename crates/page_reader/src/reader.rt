@@ -10,7 +10,7 @@ ghost use Rattle.page_reader.specs.Classes.{is, is_last};
 ghost use Rattle.page_reader.specs.Rules as rules;
 ghost use Rattle.page_reader.specs.Reads.{Reads};
 
-use crate::classes::is_end;
+use crate::classes::{END, is_end};
 use crate::fault::{Fault, PageRule, ReadError};
 use page_units::NoMemory;
 use placed_chars::{Char, Characters};
@@ -30,12 +30,13 @@ impl<'a> Model for Reader<'a> {
     ghost use Rattle.std.specs.Prelude.{List};
     ghost use Rattle.placed_chars.specs.declared.chars.Char.{Char};
     ghost use Rattle.placed_chars.specs.Chars.{AreWithin};
+    ghost use Rattle.page_reader.specs.Bounds.{page_bytes};
 
     ghost Value = { List Char };
 
     ghost view = { λ p. p.characters };
 
-    ghost invariant = { λ p. AreWithin 1048576 p.characters };
+    ghost invariant = { λ p. AreWithin page_bytes p.characters };
 }
 
 /// The reading ends here, since this rule is broken at this byte.
@@ -86,7 +87,7 @@ impl<'a> Reader<'a> {
     {
         match self.characters.ahead() {
             Some(_) => false,
-            None => self.code() == 0x110000,
+            None => self.code() == END,
         }
     }
 
@@ -105,7 +106,8 @@ impl<'a> Reader<'a> {
 
     /// The page ends within what began at the byte `at`, or else this rule is broken at `place`.
     pub(crate) fn cut_off(&self, at: u32, rule: PageRule, place: u32) -> ReadError
-        ensures { result ≡ errors.Page (rules.cut_off at (rules.fault rule place) (first self.now stop)) }
+        ensures { result ≡ errors.Page (rules.cut_off at (rules.fault rule place)
+            (first self.now stop)) }
     {
         if is_end(self.code()) {
             broken(PageRule::Unclosed, at)
@@ -122,7 +124,8 @@ impl<'a> Reader<'a> {
         rule: PageRule,
         place: u32,
     ) -> Result<(), ReadError>
-        ensures { Reads (read stop (rules.must (is c) (rules.cut_off at (rules.fault rule place))) self.old) result self.new }
+        ensures { Reads (read stop (rules.must (is c) (rules.cut_off at (rules.fault rule place)))
+            self.old) result self.new }
     {
         if !self.is_at(c) {
             return Err(self.cut_off(at, rule, place));
@@ -145,7 +148,7 @@ impl<'a> Reader<'a> {
 
 /// Puts a character behind a text.
 pub(crate) fn push_code(units: &mut Vec<u16>, code: u32) -> Result<(), NoMemory>
-    requires { code < 0x110000 }
+    requires { code < END }
     ensures { OnOk result (units.new.items ≡ units.old.items ++ encode_utf16 code) }
 {
     if code < 0x10000 {

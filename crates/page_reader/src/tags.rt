@@ -12,9 +12,9 @@ use crate::classes::{ends_attribute, ends_name, is_letter, is_part, is_white, lo
 use crate::fault::{PageRule, ReadError};
 use crate::node::Started;
 use crate::reader::Reader;
-use dom_tree::is_void;
 use page_units::Text;
 use std::alloc::Global;
+use tree_shape::is_void;
 
 impl<'a> Reader<'a> {
     /// Takes the end of the start tag that begins at the byte `tag_at`, and answers the byte behind it.
@@ -29,7 +29,7 @@ impl<'a> Reader<'a> {
             self.advance();
         }
         let end = self.here();
-        if end.code == 62 {
+        if end.code == '>' as u32 {
             self.advance();
             return Ok(end.past as u32);
         }
@@ -59,7 +59,8 @@ impl<'a> Reader<'a> {
 
     /// Takes this letter of the innermost element's name; the end tag begins at the byte `at`.
     fn same_letter(&mut self, at: u32, letter: u16) -> Result<(), ReadError>
-        ensures { Reads (read stop (rules.must (form.same_letter letter) (form.not_this at)) self.old) result self.new }
+        ensures { Reads (read stop (rules.must (form.same_letter letter) (form.not_this at))
+            self.old) result self.new }
     {
         let code = self.code();
         if is_part(code) && lower(code) == u32::from(letter) {

@@ -2,7 +2,7 @@
 ghost use Rattle.std.specs.Prelude.{◌≡◌, ◌≤◌, ◌<◌, ◌^◌, ℕ, List, [], length, IfOk, OnOk};
 ghost use Rattle.std.specs.Str.{chars};
 ghost use Rattle.grammar.specs.Reading.{read};
-ghost use Rattle.dom_tree.specs.Trees.{Trees};
+ghost use Rattle.tree_shape.specs.Trees.{Trees};
 ghost use Rattle.placed_chars.specs.declared.chars.Char.{Char};
 ghost use Rattle.placed_chars.specs.Chars.{placed, stop};
 ghost use Rattle.page_reader.specs.declared.page.ScriptText.{ScriptText};
@@ -35,7 +35,8 @@ const LEVELS_BELOW: u8 = 127;
 /// The page that the bytes are, or the rule that they break.
 pub fn read_tree(alloc: Global, bytes: &[u8]) -> Result<PageTree, PageFault>
     ensures found { TreeRead result bytes.now }
-    ensures only { (trees : Trees) (scripts : List ScriptText) → IsPage bytes.now trees scripts → NoFault result }
+    ensures only { (trees : Trees) (scripts : List ScriptText) → IsPage bytes.now trees scripts
+        → NoFault result }
     ensures only_fault { (rule at : ℕ) → IsPageFault bytes.now rule at → OnlyFault result rule at }
 {
     if PAGE_BYTES < bytes.len() {
@@ -51,7 +52,8 @@ pub fn read_tree(alloc: Global, bytes: &[u8]) -> Result<PageTree, PageFault>
 fn read_text(alloc: Global, text: &str) -> Result<PageTree, PageFault>
     requires { length text.now ≤ PAGE_BYTES }
     ensures found { TreeRead result text.now }
-    ensures only { (trees : Trees) (scripts : List ScriptText) → IsPage text.now trees scripts → NoFault result }
+    ensures only { (trees : Trees) (scripts : List ScriptText) → IsPage text.now trees scripts
+        → NoFault result }
     ensures only_fault { (rule at : ℕ) → IsPageFault text.now rule at → OnlyFault result rule at }
 {
     let mut slices = Items::new(alloc);
@@ -68,7 +70,9 @@ fn read_text(alloc: Global, text: &str) -> Result<PageTree, PageFault>
 fn read_characters(alloc: Global, text: &str, slices: &mut Items<Slice>) -> Result<Node, ReadError>
     requires few { length text.now ≤ PAGE_BYTES }
     requires none { slices.old ≡ [] }
-    ensures { (rest : List Char) × ReadsAs (λ root. found root slices.new) (read stop (page levels_below) (placed 0 (chars text.now))) result rest × OnOk result (rest ≡ []) }
+    ensures { (rest : List Char) × ReadsAs (λ root. found root slices.new)
+        (read stop (page levels_below) (placed 0 (chars text.now))) result rest × OnOk result
+        (rest ≡ []) }
 {
     Reader::new(text).page(alloc, LEVELS_BELOW, slices)
 }

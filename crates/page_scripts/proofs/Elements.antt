@@ -4,7 +4,7 @@ use Rattle.std.specs.Prelude.{All}
 use Rattle.std.proofs.lemmas.List.Elements.{All-push}
 use Rattle.grammar.specs.Grammar.{done, or}
 use Rattle.grammar.specs.Words.{◌>>=◌, ◌>>◌}
-use Rattle.dom_tree.specs.Names.{is_void, is_raw}
+use Rattle.tree_shape.specs.Names.{is_void, is_raw}
 use Rattle.placed_chars.specs.declared.chars.Char.{Char}
 use Rattle.page_reader.specs.declared.fault.PageRule.TheVariants.{BadTag}
 use Rattle.page_reader.specs.declared.node.Attribute.{Attribute}

@@ -6,7 +6,7 @@ use Rattle.std.proofs.lemmas.List.{append-nil}
 use Rattle.std.proofs.lemmas.List.Elements.{All-nil, All-cons, All-head, All-tail}
 use Rattle.grammar.specs.Grammar.{done, again}
 use Rattle.grammar.specs.Words.{◌>>=◌, ◌>>◌}
-use Rattle.dom_tree.specs.Trees.{Trees}
+use Rattle.tree_shape.specs.Trees.{Trees}
 use Rattle.placed_chars.specs.declared.chars.Char.{Char}
 use Rattle.placed_chars.specs.Chars.{placed, stop}
 use Rattle.page_reader.specs.declared.node.Slice.{Slice}

@@ -1,6 +1,6 @@
 //! The programs of a page's scripts, in order.
 ghost use Rattle.std.specs.Prelude.{◌≡◌, ◌≤◌, ℕ, List, length, IfOk, All};
-ghost use Rattle.dom_tree.specs.Trees.{Trees};
+ghost use Rattle.tree_shape.specs.Trees.{Trees};
 ghost use Rattle.page_reader.specs.Page.{IsPage, page_bytes};
 ghost use Rattle.js_tree.specs.declared.code.Program.{Program};
 ghost use Rattle.js_tree.specs.Valid.{IsValid};

@@ -8,3 +8,4 @@ pub mod Metered
 pub mod Numbers
 pub mod Outside
 pub mod Shelves
+pub mod Texts

@@ -2,13 +2,14 @@
 use Rattle.std.specs.Prelude.{◌≡◌, ◌≢◌, ◌≤◌, ℕ}
 use Rattle.page_units.specs.declared.limits.Limit.{Limit}
 use Rattle.page_units.specs.declared.limits.Limit.TheVariants as l
+use Rattle.page_units.specs.Texts.{longest_text}
 
 -- what each number is where nothing else is asked for
 abbrev pub default_limit : Limit → ℕ
 default_limit l.Weight = 2000000
 default_limit l.TaskSteps = 1000000
 default_limit l.Depth = 600
-default_limit l.Text = 65535
+default_limit l.Text = longest_text
 default_limit l.DomText = 1048576
 default_limit l.Requests = 32
 default_limit l.Firings = 1000

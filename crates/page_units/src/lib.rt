@@ -21,8 +21,8 @@ pub mod value;
 
 pub use blanks::{is_line_terminator, is_white_space};
 pub use coding::{text_of_utf8, utf8_of};
-pub use digits::{number_len, push_number};
-pub use event::{PageEvent, Response};
+pub use digits::{digit_value, number_len, push_number};
+pub use event::{PageEvent, Request, Response, Verb};
 pub use fault::{NoMemory, RunFault, Stopped};
 pub use limits::{Limit, Limits};
 pub use meter::Meter;
@@ -33,5 +33,5 @@ pub use sink::{Gave, MemorySink, Sink, SureSink, Wrote, write_all};
 pub use source::{MemorySource, Source, SureSource, Took};
 pub use spelling::{is_word, push_ascii, push_char};
 pub use standard::{FileShelf, StdSink, StdSource};
-pub use text::Text;
-pub use value::{CellName, End, Value};
+pub use text::{LONGEST_TEXT, Text};
+pub use value::{CellName, End, GREATEST_NUMBER, Value};

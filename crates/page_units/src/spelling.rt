@@ -1,12 +1,13 @@
 //! How texts are spelled: by ASCII characters, a unit each, and by characters, a unit or two each.
-ghost use Rattle.std.specs.Prelude.{◌≡◌, ◌++◌, OnOk, bytes_eq};
+ghost use Rattle.std.specs.Prelude.{◌≡◌, ◌++◌, OnOk, OnErr, length, take, bytes_eq};
 ghost use Rattle.std.specs.Char.Escape.{encode_utf16};
 
 use crate::fault::NoMemory;
 
 /// Appends ASCII characters, a unit each. Out of memory, some of them may have been appended.
 pub fn push_ascii(units: &mut Vec<u16>, characters: &[u8]) -> Result<(), NoMemory>
-    ensures { OnOk result (units.new.items ≡ units.old.items ++ characters.now) }
+    ensures ok { OnOk result (units.new.items ≡ units.old.items ++ characters.now) }
+    ensures err { OnErr result (take (length units.old.items) units.new.items ≡ units.old.items) }
 {
     for character in characters {
         units.push(u16::from(*character))?;
@@ -15,9 +16,10 @@ pub fn push_ascii(units: &mut Vec<u16>, characters: &[u8]) -> Result<(), NoMemor
 }
 
 /// Appends a character's unit, or its pair of surrogates where it lies above U+FFFF (Unicode, D91).
-/// Out of memory, nothing is promised of the units behind those that were there.
+/// Out of memory, nothing was appended.
 pub fn push_char(units: &mut Vec<u16>, c: char) -> Result<(), NoMemory>
-    ensures { OnOk result (units.new.items ≡ units.old.items ++ encode_utf16 c) }
+    ensures ok { OnOk result (units.new.items ≡ units.old.items ++ encode_utf16 c) }
+    ensures err { OnErr result (units.new.items ≡ units.old.items) }
 {
     let mut pair = [0; 2];
     units.extend_from_slice(c.encode_utf16(&mut pair))?;

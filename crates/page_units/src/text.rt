@@ -1,10 +1,10 @@
 //! Texts of 16-bit units (ECMA-262 5.1, 8.4).
-ghost use Rattle.std.specs.Prelude.{◌≡◌, ℕ, ◌<◌, List, length, IfOk, slice_get, Some, refl, nat_eq, bytes_eq};
-ghost use Rattle.std.specs.Cmp.Lexicographic.{pointwise, slice_cmp, nat_list_eq_equiv, nat_list_cmp_total, texts_ties, texts_po};
+ghost use Rattle.std.specs.Prelude.{◌≡◌, ℕ, ◌<◌, List, length, IfOk, ◌≤◌, ◌-◌, ◌++◌, take, drop, slice_get, Some, refl, nat_eq, bytes_eq};
+ghost use Rattle.std.specs.Cmp.Lexicographic.{pointwise, nat_list_eq_equiv, nat_list_cmp_total, texts_ties, texts_po};
 ghost use Rattle.std.specs.Cmp.{partial_equiv_from_equiv};
-ghost use Rattle.std.specs.Ordering.{nat_cmp};
 ghost use Rattle.page_units.specs.Coding.{IsUnits, units_of_utf8};
 ghost use Rattle.page_units.specs.Digits.{digits};
+ghost use Rattle.page_units.specs.Texts.{text_cmp};
 
 use crate::coding::units_of_str;
 use crate::digits::{number_len, push_number};
@@ -14,6 +14,10 @@ use std::alloc::Global;
 use std::cmp::Ordering;
 use std::marker::Model;
 use std::rc::RcSlice;
+
+/// How many UTF-16 units a text of a script has at most (this project's own). A `Text` by itself
+/// may be longer.
+pub const LONGEST_TEXT: usize = 65_535;
 
 /// A text: a list of UTF-16 units, of which a surrogate may stand alone. Clones share the units.
 #[derive(Drop)]
@@ -99,6 +103,44 @@ impl Text {
     {
         self.units.as_slice()
     }
+
+    /// The unit at an index, from 0; None past the end.
+    pub fn unit(&self, index: usize) -> Option<u16>
+        ensures { result ≡ slice_get self.now index }
+    {
+        self.units().get(index).copied()
+    }
+
+    /// The units from index `from` up to `to`, which isn't among them. The whole text shares its
+    /// units. Out of memory there is no text, and this one is as it was.
+    pub fn slice(&self, alloc: Global, from: usize, to: usize) -> Result<Text, NoMemory>
+        requires order { from ≤ to }
+        requires within { to ≤ length self.now }
+        ensures { IfOk result (λ t. t ≡ take (to - from) (drop from self.now)) }
+    {
+        if from == 0 && to == self.len() {
+            return self.clone();
+        }
+        Text::of_units(Vec::from_slice(alloc, &self.units()[from..to])?)
+    }
+
+    /// This text and the other behind it. Where one is empty, the units of the other are shared.
+    /// Out of memory there is no text, and both are as they were.
+    pub fn concat(&self, alloc: Global, other: &Text) -> Result<Text, NoMemory>
+        ensures { IfOk result (λ t. t ≡ self.now ++ other.now) }
+    {
+        if other.is_empty() {
+            return self.clone();
+        }
+        if self.is_empty() {
+            return other.clone();
+        }
+        let (first, second) = (self.units(), other.units());
+        let mut units = Vec::with_capacity(alloc, first.len() + second.len())?;
+        units.extend_from_slice(first)?;
+        units.extend_from_slice(second)?;
+        Text::of_units(units)
+    }
 }
 
 impl Clone for Text {
@@ -126,7 +168,7 @@ impl Eq for Text {
 }
 
 impl PartialOrd for Text {
-    ghost partial_cmp = { λ x y. Some (slice_cmp nat_cmp x y) };
+    ghost partial_cmp = { λ x y. Some (text_cmp x y) };
 
     ghost laws = { texts_po };
 
@@ -136,7 +178,7 @@ impl PartialOrd for Text {
 }
 
 impl Ord for Text {
-    ghost cmp = { slice_cmp nat_cmp };
+    ghost cmp = { text_cmp };
 
     ghost total = { nat_list_cmp_total };
 

@@ -8,6 +8,11 @@ use crate::text::Text;
 #[derive(Clone, Copy, Debug, PartialEq, Eq, PartialOrd, Ord)]
 pub struct CellName(pub u32);
 
+/// The greatest whole number of a script, 2^53 - 1: up to it a double tells every whole number
+/// from the next (ECMA-262 5.1, 8.5). The least is its negative. That all numbers are whole is this
+/// project's own.
+pub const GREATEST_NUMBER: i64 = 9_007_199_254_740_991;
+
 /// A value of a script. A number is a whole number from -(2^53 - 1) to 2^53 - 1; an object is the
 /// name of its cell. That numbers are whole is this project's own.
 #[derive(Drop, PartialEq, Eq)]

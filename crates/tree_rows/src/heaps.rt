@@ -7,7 +7,7 @@ ghost use Rattle.cell_heap.specs.Base.{heap_of};
 
 use crate::fields::text_of;
 use cell_heap::Base;
-use cell_places::{Answer, CellFault, CellKind, Cells, Place, Slot};
+use cell_places::{Answer, CellFault, CellKind, Cells, DOCUMENT, PAGE, Place, Slot};
 use page_units::{CellName, NoMemory, Value};
 use row_files::field;
 use std::alloc::{AllocError, Global};
@@ -33,8 +33,7 @@ fn page_number(base: &mut Base, slot: Slot) -> Result<i64, NoMemory>
     requires slot { has_slot Page slot ≡ true }
     ensures { OnOk result (heap_of base.new ≡ heap_of base.old) }
 {
-    let cell = CellName(1);
-    match base.ask(&Place { cell, slot })? {
+    match base.ask(&Place { cell: PAGE, slot })? {
         Answer::One(Value::Num(number)) => Ok(number),
         _ => Ok(-1),
     }
@@ -45,9 +44,11 @@ fn own_cell(base: &mut Base, alloc: Global, name: &str) -> Result<i64, NoMemory>
     requires { (heap_of base.old).kinds ≡ start_kinds }
     ensures { OnOk result (heap_of base.new ≡ heap_of base.old) }
 {
-    let cell = CellName(2);
     let slot = Slot::Own(text_of(alloc, name)?);
-    match base.ask(&Place { cell, slot })? {
+    match base.ask(&Place {
+        cell: DOCUMENT,
+        slot,
+    })? {
         Answer::One(Value::Cell(found)) => Ok(i64::from(found.0)),
         _ => Ok(-1),
     }
@@ -58,19 +59,29 @@ fn put_own(base: &mut Base, alloc: Global, name: &str, number: u32) -> Result<()
     requires number { number < 128 }
     ensures { OnOk result ((heap_of base.new).kinds ≡ start_kinds) }
 {
-    let cell = CellName(2);
     let slot = Slot::Own(text_of(alloc, name)?);
     let answer = Answer::One(Value::Cell(CellName(number)));
-    base.put(&Place { cell, slot }, answer)
+    base.put(
+        &Place {
+            cell: DOCUMENT,
+            slot,
+        },
+        answer,
+    )
 }
 
 fn clear_own(base: &mut Base, alloc: Global, name: &str) -> Result<(), NoMemory>
     requires { (heap_of base.old).kinds ≡ start_kinds }
     ensures { OnOk result ((heap_of base.new).kinds ≡ start_kinds) }
 {
-    let cell = CellName(2);
     let slot = Slot::Own(text_of(alloc, name)?);
-    base.put(&Place { cell, slot }, Answer::Absent)
+    base.put(
+        &Place {
+            cell: DOCUMENT,
+            slot,
+        },
+        Answer::Absent,
+    )
 }
 
 /// What a case of puts or of makes leaves.

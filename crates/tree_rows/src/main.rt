@@ -6,6 +6,8 @@ mod fields;
 mod heaps;
 mod names;
 mod places;
+mod readers;
+mod start;
 
 use row_files::{Answers, run};
 use std::alloc::{AllocError, Global};
@@ -18,7 +20,12 @@ impl Answers for Trees {
             "places, by cell, then by slot, then by text" => places::order(alloc, fields),
             "places and their clones" => places::compared_clone(alloc, fields),
             "clones of kinds and answers" => places::other_clone(alloc, fields),
+            "classes of kinds" => readers::classes(alloc, fields),
+            "what answers hold" => readers::held(alloc, fields),
+            "clones of what lists hold" => readers::list_clone(alloc, fields),
+            "change numbers" => readers::change_number(alloc, fields),
             "heaps at their start" => heaps::started(alloc, fields),
+            "the cells of a start" => start::cell(alloc, fields),
             "puts, makes" => heaps::acts(alloc, fields),
             "charges, within the limit, to it, and one above" => heaps::charges(alloc, fields),
             "void names" => names::void_name(alloc, fields),

@@ -4,6 +4,7 @@
 mod coding;
 mod fields;
 mod numbers;
+mod parts;
 mod places;
 mod shelves;
 mod sinks;
@@ -27,6 +28,9 @@ impl Answers for Units {
             "texts, in the order of their units" => texts::order(alloc, fields),
             "texts and their clones" => texts::compared_clone(alloc, fields),
             "texts, their lengths and units" => texts::length_and_units(alloc, fields),
+            "units of texts" => parts::unit(alloc, fields),
+            "parts of texts" => parts::slice(alloc, fields),
+            "texts put together" => parts::concat(alloc, fields),
             "clones of shared lists" => texts::shared_clone(alloc, fields),
             "items of shared lists" => texts::shared_item(alloc, fields),
             "blanks" => texts::blank(alloc, fields),
@@ -52,6 +56,8 @@ fn spelled(
         "characters behind one another" => spelling::appended(alloc, fields),
         "digits of numbers" => spelling::digits(alloc, fields),
         "numbers behind one another" => spelling::numbers(alloc, fields),
+        "values of digits" => parts::digit(alloc, fields),
+        "bounds of numbers and texts" => parts::bound(alloc, fields),
         _ => outside(rt, alloc, group, fields),
     }
 }

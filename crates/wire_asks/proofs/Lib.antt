@@ -1,5 +1,5 @@
 pub mod Judged
-pub mod Fronts
+pub mod Prefixes
 pub mod Json
 pub mod Keys
 pub mod Paths

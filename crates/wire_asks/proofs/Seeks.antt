@@ -1,14 +1,15 @@
 -- What the router's search finds among the seven routes.
+use Prim.Native.Char.{code}
 use Rattle.std.proofs.Common.{◌≡◌, ℕ, zero, suc, ◌<◌, ◌-◌, ◌⊎◌, inl, inr, List, [], ◌∷◌, ◌++◌, Bool, true, false, cond, Option, Some, None, length, codes, refl, sym, subst, ◌∙◌, arith, eqb, not, option_map, get_or}
 use Rattle.std.specs.Option.{option_map_or}
-use Rattle.matchit.specs.Rows.{RowsOf}
+use Rattle.matchit.specs.Rows.{RowsOf, param_token, catch_all_token}
 use Rattle.matchit.specs.Level.{IsText}
 use Rattle.matchit.specs.Seek.{seek, step, first, has_slash, or_else, param_step}
 use Rattle.matchit.specs.Router.{RouteOf}
 use Rattle.wire_asks.specs.declared.route.Route.{Route}
-use Rattle.wire_asks.specs.declared.route.Route.TheVariants.{Dom, Load, Node, Stats, Event, Tick, Halt}
-use Rattle.wire_asks.specs.Table.{seven}
-use Rattle.wire_asks.proofs.Fronts.{strip, is_id, is_text, named_by}
+use Rattle.wire_asks.specs.declared.route.Route.TheVariants.{Dom, Load, Stats, Event, Tick, Halt}
+use Rattle.wire_asks.specs.Table.{plain, node_row, seven}
+use Rattle.wire_asks.proofs.Prefixes.{strip, is_id, is_text, named_by}
 
 abbrev Found : Type 0
 Found = Option (RouteOf Route)
@@ -56,7 +57,7 @@ chain [] r [] t = refl
 chain [] r (b ∷ path) t = rw (no_param b path, seek_none path 0) refl
 chain (x ∷ text) r [] t = refl
 chain (x ∷ text) r (b ∷ path) t =
-    rw (apart x 256 t.0, apart x 257 (omega (arith, t.0)), no_param b path, or_else_none)
+    rw (apart x param_token t.0, apart x catch_all_token (omega (arith, t.0)), no_param b path, or_else_none)
     (chain_step (eqb x b) b text r path (chain text r path t.1))
 
 -- ---- after `/node/`
@@ -66,27 +67,27 @@ end_step : (s : Bool) (path : List ℕ) (r : RouteOf Route)
 end_step true path r = seek_none path 0
 end_step false path r = subst (λ k. ◌≡◌ {A = Found} (seek k (([], r) ∷ []) path) (Some r)) (omega arith) (seek_all r path)
 
-apart_left : (b : ℕ) → b < 256 → eqb 256 b ≡ false
+apart_left : (b : ℕ) → b < 256 → eqb param_token b ≡ false
 apart_left b h = grind (arith, h)
 
-node_end : (path : List ℕ) (r : RouteOf Route) → IsText path → ◌≡◌ {A = Found} (seek 0 ((256 ∷ [], r) ∷ []) path) (cond (is_id path) (Some r) None)
+node_end : (path : List ℕ) (r : RouteOf Route) → IsText path → ◌≡◌ {A = Found} (seek 0 ((param_token ∷ [], r) ∷ []) path) (cond (is_id path) (Some r) None)
 unfolding seek param_step
 node_end [] r t = refl
 node_end (b ∷ path) r t = rw (apart_left b t.0, seek_none path 0, or_else_none) (end_step (has_slash (b ∷ path)) path r)
 
 node_step : (c : Bool) (text : List ℕ) (r : RouteOf Route) (path : List ℕ)
-    → ◌≡◌ {A = Found} (seek 0 ((text ++ 256 ∷ [], r) ∷ []) path) (cond (option_map_or is_id (strip text path) false) (Some r) None)
-    → ◌≡◌ {A = Found} (seek 0 (cond {A = Routes} c ((text ++ 256 ∷ [], r) ∷ []) []) path) (cond (option_map_or is_id (cond c (strip text path) None) false) (Some r) None)
+    → ◌≡◌ {A = Found} (seek 0 ((text ++ param_token ∷ [], r) ∷ []) path) (cond (option_map_or is_id (strip text path) false) (Some r) None)
+    → ◌≡◌ {A = Found} (seek 0 (cond {A = Routes} c ((text ++ param_token ∷ [], r) ∷ []) []) path) (cond (option_map_or is_id (cond c (strip text path) None) false) (Some r) None)
 node_step true text r path ih = ih
 node_step false text r path ih = seek_none path 0
 
 pub node_chain : (text : List ℕ) (r : RouteOf Route) (path : List ℕ) → IsText text → IsText path
-    → ◌≡◌ {A = Found} (seek 0 ((text ++ 256 ∷ [], r) ∷ []) path) (cond (option_map_or is_id (strip text path) false) (Some r) None)
+    → ◌≡◌ {A = Found} (seek 0 ((text ++ param_token ∷ [], r) ∷ []) path) (cond (option_map_or is_id (strip text path) false) (Some r) None)
 unfolding seek
 node_chain [] r path t u = node_end path r u
 node_chain (x ∷ text) r [] t u = refl
 node_chain (x ∷ text) r (b ∷ path) t u =
-    rw (apart x 256 t.0, apart x 257 (omega (arith, t.0)), no_param b path, or_else_none)
+    rw (apart x param_token t.0, apart x catch_all_token (omega (arith, t.0)), no_param b path, or_else_none)
     (node_step (eqb x b) text r path (node_chain text r path t.1 u.1))
 
 -- ---- the whole
@@ -106,65 +107,107 @@ value_cond true r = refl
 value_cond false r = refl
 
 abbrev tails : Routes
-tails = step 47 seven
+tails = step (code "/") seven
 
 Meets : ℕ → List ℕ → Type 0
-Meets b path = named_by (47 ∷ b ∷ path) ≡ value_of (seek 0 tails (b ∷ path))
+Meets b path = named_by (code "/" ∷ b ∷ path) ≡ value_of (seek 0 tails (b ∷ path))
 
-at_100 : (path : List ℕ) → Meets 100 path
+at_d : (path : List ℕ) → Meets (code "d") path
 unfolding Meets seek
-at_100 path = rw (no_param 100 path, or_else_none, chain (codes "om") (record { pattern = codes "/dom"; text = codes "/dom"; names = []; value = Dom }) path (omega arith, (omega arith, tt))) (value_cond (is_text (codes "om") path) (record { pattern = codes "/dom"; text = codes "/dom"; names = []; value = Dom }))
+at_d path =
+    rw (
+      no_param (code "d") path,
+      or_else_none,
+      chain (codes "om") (plain (codes "/dom") Dom).1 path (omega arith, (omega arith, tt)),
+    )
+    (value_cond (is_text (codes "om") path) (plain (codes "/dom") Dom).1)
 
-at_101 : (path : List ℕ) → Meets 101 path
+at_e : (path : List ℕ) → Meets (code "e") path
 unfolding Meets seek
-at_101 path = rw (no_param 101 path, or_else_none, chain (codes "vent") (record { pattern = codes "/event"; text = codes "/event"; names = []; value = Event }) path (omega arith, (omega arith, (omega arith, (omega arith, tt))))) (value_cond (is_text (codes "vent") path) (record { pattern = codes "/event"; text = codes "/event"; names = []; value = Event }))
+at_e path =
+    rw (
+      no_param (code "e") path,
+      or_else_none,
+      chain (codes "vent") (plain (codes "/event") Event).1 path (omega arith, (omega arith, (omega arith, (omega arith, tt)))),
+    )
+    (value_cond (is_text (codes "vent") path) (plain (codes "/event") Event).1)
 
-at_104 : (path : List ℕ) → Meets 104 path
+at_h : (path : List ℕ) → Meets (code "h") path
 unfolding Meets seek
-at_104 path = rw (no_param 104 path, or_else_none, chain (codes "alt") (record { pattern = codes "/halt"; text = codes "/halt"; names = []; value = Halt }) path (omega arith, (omega arith, (omega arith, tt)))) (value_cond (is_text (codes "alt") path) (record { pattern = codes "/halt"; text = codes "/halt"; names = []; value = Halt }))
+at_h path =
+    rw (
+      no_param (code "h") path,
+      or_else_none,
+      chain (codes "alt") (plain (codes "/halt") Halt).1 path (omega arith, (omega arith, (omega arith, tt))),
+    )
+    (value_cond (is_text (codes "alt") path) (plain (codes "/halt") Halt).1)
 
-at_108 : (path : List ℕ) → Meets 108 path
+at_l : (path : List ℕ) → Meets (code "l") path
 unfolding Meets seek
-at_108 path = rw (no_param 108 path, or_else_none, chain (codes "oad") (record { pattern = codes "/load"; text = codes "/load"; names = []; value = Load }) path (omega arith, (omega arith, (omega arith, tt)))) (value_cond (is_text (codes "oad") path) (record { pattern = codes "/load"; text = codes "/load"; names = []; value = Load }))
+at_l path =
+    rw (
+      no_param (code "l") path,
+      or_else_none,
+      chain (codes "oad") (plain (codes "/load") Load).1 path (omega arith, (omega arith, (omega arith, tt))),
+    )
+    (value_cond (is_text (codes "oad") path) (plain (codes "/load") Load).1)
 
-at_110 : (path : List ℕ) → IsText path → Meets 110 path
+at_n : (path : List ℕ) → IsText path → Meets (code "n") path
 unfolding Meets seek
-at_110 path u = rw (no_param 110 path, or_else_none, node_chain (codes "ode/") (record { pattern = codes "/node/" ++ 256 ∷ []; text = codes "/node/{id}"; names = (7, 9) ∷ []; value = Node }) path (omega arith, (omega arith, (omega arith, (omega arith, tt)))) u) (value_cond (option_map_or is_id (strip (codes "ode/") path) false) (record { pattern = codes "/node/" ++ 256 ∷ []; text = codes "/node/{id}"; names = (7, 9) ∷ []; value = Node }))
+at_n path u =
+    rw (
+      no_param (code "n") path,
+      or_else_none,
+      node_chain (codes "ode/") node_row.1 path (omega arith, (omega arith, (omega arith, (omega arith, tt)))) u,
+    )
+    (value_cond (option_map_or is_id (strip (codes "ode/") path) false) node_row.1)
 
-at_115 : (path : List ℕ) → Meets 115 path
+at_s : (path : List ℕ) → Meets (code "s") path
 unfolding Meets seek
-at_115 path = rw (no_param 115 path, or_else_none, chain (codes "tats") (record { pattern = codes "/stats"; text = codes "/stats"; names = []; value = Stats }) path (omega arith, (omega arith, (omega arith, (omega arith, tt))))) (value_cond (is_text (codes "tats") path) (record { pattern = codes "/stats"; text = codes "/stats"; names = []; value = Stats }))
+at_s path =
+    rw (
+      no_param (code "s") path,
+      or_else_none,
+      chain (codes "tats") (plain (codes "/stats") Stats).1 path (omega arith, (omega arith, (omega arith, (omega arith, tt)))),
+    )
+    (value_cond (is_text (codes "tats") path) (plain (codes "/stats") Stats).1)
 
-at_116 : (path : List ℕ) → Meets 116 path
+at_t : (path : List ℕ) → Meets (code "t") path
 unfolding Meets seek
-at_116 path = rw (no_param 116 path, or_else_none, chain (codes "ick") (record { pattern = codes "/tick"; text = codes "/tick"; names = []; value = Tick }) path (omega arith, (omega arith, (omega arith, tt)))) (value_cond (is_text (codes "ick") path) (record { pattern = codes "/tick"; text = codes "/tick"; names = []; value = Tick }))
+at_t path =
+    rw (
+      no_param (code "t") path,
+      or_else_none,
+      chain (codes "ick") (plain (codes "/tick") Tick).1 path (omega arith, (omega arith, (omega arith, tt))),
+    )
+    (value_cond (is_text (codes "ick") path) (plain (codes "/tick") Tick).1)
 
-second : (path : List ℕ) → IsText path → named_by (47 ∷ path) ≡ value_of (seek 0 tails path)
+second : (path : List ℕ) → IsText path → named_by (code "/" ∷ path) ≡ value_of (seek 0 tails path)
 unfolding Meets seek
 second [] t = refl
 second (b ∷ path) t =
-    elim (differs b 100) [
-      | inl e ↦ subst (λ k. Meets k path) (sym e) (at_100 path)
-      | inr n100 ↦
-          elim (differs b 101) [
-            | inl e ↦ subst (λ k. Meets k path) (sym e) (at_101 path)
-            | inr n101 ↦
-                elim (differs b 104) [
-                  | inl e ↦ subst (λ k. Meets k path) (sym e) (at_104 path)
-                  | inr n104 ↦
-                      elim (differs b 108) [
-                        | inl e ↦ subst (λ k. Meets k path) (sym e) (at_108 path)
-                        | inr n108 ↦
-                            elim (differs b 110) [
-                              | inl e ↦ subst (λ k. Meets k path) (sym e) (at_110 path t.1)
-                              | inr n110 ↦
-                                  elim (differs b 115) [
-                                    | inl e ↦ subst (λ k. Meets k path) (sym e) (at_115 path)
-                                    | inr n115 ↦
-                                        elim (differs b 116) [
-                                          | inl e ↦ subst (λ k. Meets k path) (sym e) (at_116 path)
-                                          | inr n116 ↦
-                                              rw (n100, n101, n104, n108, n110, n115, n116, seek_none path 0, no_param b path) refl
+    elim (differs b (code "d")) [
+      | inl e ↦ subst (λ k. Meets k path) (sym e) (at_d path)
+      | inr not_d ↦
+          elim (differs b (code "e")) [
+            | inl e ↦ subst (λ k. Meets k path) (sym e) (at_e path)
+            | inr not_e ↦
+                elim (differs b (code "h")) [
+                  | inl e ↦ subst (λ k. Meets k path) (sym e) (at_h path)
+                  | inr not_h ↦
+                      elim (differs b (code "l")) [
+                        | inl e ↦ subst (λ k. Meets k path) (sym e) (at_l path)
+                        | inr not_l ↦
+                            elim (differs b (code "n")) [
+                              | inl e ↦ subst (λ k. Meets k path) (sym e) (at_n path t.1)
+                              | inr not_n ↦
+                                  elim (differs b (code "s")) [
+                                    | inl e ↦ subst (λ k. Meets k path) (sym e) (at_s path)
+                                    | inr not_s ↦
+                                        elim (differs b (code "t")) [
+                                          | inl e ↦ subst (λ k. Meets k path) (sym e) (at_t path)
+                                          | inr not_t ↦
+                                              rw (not_d, not_e, not_h, not_l, not_n, not_s, not_t, seek_none path 0, no_param b path) refl
                                         ]
                                   ]
                             ]
@@ -176,8 +219,8 @@ second (b ∷ path) t =
 pub finds : (path : List ℕ) → IsText path → named_by path ≡ value_of (first seven path)
 unfolding seek
 finds [] t = refl
-finds (b ∷ path) t = elim (differs b 47) [
-  | inl e ↦ subst (λ k. named_by (k ∷ path) ≡ value_of (first seven (k ∷ path))) (sym e) (rw (no_param 47 path, or_else_none) (second path t.1))
+finds (b ∷ path) t = elim (differs b (code "/")) [
+  | inl e ↦ subst (λ k. named_by (k ∷ path) ≡ value_of (first seven (k ∷ path))) (sym e) (rw (no_param (code "/") path, or_else_none) (second path t.1))
   | inr n ↦ rw (n, seek_none path 0, no_param b path) refl
 ]
 

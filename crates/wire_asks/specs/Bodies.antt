@@ -20,8 +20,12 @@ keys_are_among keys (member key d more) = list_any (λ known. bytes_eq key known
 
 -- ---- `/tick`: an object with `ms` alone, a number without point and exponent from 1 to 86,400,000
 
+-- a day, in milliseconds
+abbrev pub day : ℕ
+day = 86_400_000
+
 abbrev pub within_day : ℕ → Option ℕ
-within_day n = if nat_le 1 n && nat_le n 86400000 then Some n else None
+within_day n = if nat_le 1 n && nat_le n day then Some n else None
 
 abbrev pub tick_in : Members → Option ℕ
 tick_in members =

@@ -11,7 +11,7 @@ use page_units::{NoMemory, Text};
 use std::alloc::Global;
 
 /// What stands before the id of a node.
-const NODE_FRONT: &str = "/node/";
+const NODE_PREFIX: &str = "/node/";
 
 /// What a request of this route, which its path names, asks. BadBody: the body isn't the object
 /// that the route takes.
@@ -27,7 +27,7 @@ pub fn asked_at(
     match route {
         Route::Dom => Ok(Ok(Asked::Dom)),
         Route::Load => Ok(Ok(Asked::Load)),
-        Route::Node => match path.strip_prefix(NODE_FRONT) {
+        Route::Node => match path.strip_prefix(NODE_PREFIX) {
             Some(id) => Ok(Ok(Asked::Node(Text::of_str(alloc, id)?))),
             None => unreachable!(),
         },

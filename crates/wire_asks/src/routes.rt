@@ -1,8 +1,8 @@
 //! The table of the routes, and what a request asks by it.
-ghost use Rattle.std.specs.Prelude.{◌≡◌, ◌==◌, [], IfOk, OnOk, position};
+ghost use Rattle.std.specs.Prelude.{◌≡◌, [], IfOk, OnOk, position};
 ghost use Rattle.matchit.specs.Route.{parse_route};
 ghost use Rattle.wire_asks.specs.Asking.{asked_by};
-ghost use Rattle.wire_asks.specs.Routes.{path_of, route_of};
+ghost use Rattle.wire_asks.specs.Routes.{is_query_mark, path_of, route_of};
 ghost use Rattle.wire_asks.specs.Table.{IsFree, IsTable, with_route};
 
 use crate::asked::{Asked, Refusal};
@@ -104,7 +104,7 @@ fn before_query(target: &[u8]) -> &[u8]
 
 /// Where the first `?` stands.
 fn query_at(target: &[u8]) -> Option<usize>
-    ensures { result ≡ position (λ byte. byte == 63) target.now }
+    ensures { result ≡ position is_query_mark target.now }
 {
     target.iter().position(|byte| *byte == b'?')
 }

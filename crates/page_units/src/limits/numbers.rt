@@ -4,6 +4,7 @@ ghost use Rattle.page_units.specs.Limits.{AreLimits, default_limit, IsChanged};
 ghost use Rattle.page_units.specs.LimitsOf.{number_of, Takes};
 
 use super::{Limit, Limits};
+use crate::text::LONGEST_TEXT;
 
 impl Limit {
     /// The number that this limit has where nothing else is asked for.
@@ -14,7 +15,7 @@ impl Limit {
             Limit::Weight => 2_000_000,
             Limit::TaskSteps => 1_000_000,
             Limit::Depth => 600,
-            Limit::Text => 65_535,
+            Limit::Text => LONGEST_TEXT as u64,
             Limit::DomText => 1_048_576,
             Limit::Requests => 32,
             Limit::Firings => 1_000,

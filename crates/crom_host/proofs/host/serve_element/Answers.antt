@@ -2,7 +2,7 @@ use Rattle.std.proofs.Common.{◌≡◌, Option, subst}
 use Rattle.std.proofs.lemmas.Result.{IfOk-weaker}
 use Rattle.page_units.specs.declared.value.CellName.{CellName}
 use Rattle.cell_places.specs.Heap.{Heap}
-use Rattle.cell_places.specs.View.{ground}
+use Rattle.cell_places.specs.View.{ground, uncounted}
 use Rattle.cell_places.proofs.Runs.{Still-heap}
 use Rattle.cell_heap.specs.Base.{heap_of}
 use Rattle.dom_tree.specs.Ids.{Finds}
@@ -16,7 +16,7 @@ pub returns-in-Some-clause-step : goal.returns-in-Some-clause-step
 returns-in-Some-clause-step c =
     let H : Heap = heap_of c.args.base.now in
     let H' : Heap = heap_of c.element_by_id.new.cells in
-    let same : H' ≡ H = Still-heap (ground H) (ground H') c.in_ok-element.ensures.still in
+    let same : H' ≡ H = Still-heap (ground H uncounted) (ground H' uncounted) c.in_ok-element.ensures.still in
     let finds = c.in_ok-element.ensures.finds in
     let visited = c.in_ok-element.field-0.visited in
     let found = subst (λ (z : Option CellName). Finds H c.args.id.now z visited finds.0) c.in-Some.is finds.1 in

@@ -6,10 +6,10 @@ use Rattle.cell_places.specs.Heap.{cell, place}
 use Rattle.cell_places.specs.Valid.{CanAsk}
 use Rattle.cell_places.specs.View.{heap}
 use Rattle.cell_places.proofs.Runs.{Still-refl, Still-trans, Still-heap}
-use Rattle.dom_tree.specs.Ids.{Elements}
+use Rattle.dom_tree.specs.Ids.{InTreeOrder}
 use Rattle.dom_tree.specs.Searched.{CanSearch, Searched}
-use Rattle.dom_tree.proofs.Asking.{still_on, still_back}
-use Rattle.dom_tree.proofs.Nodes.{children_still}
+use Rattle.tree_shape.proofs.Asking.{still_on, still_back}
+use Rattle.tree_shape.proofs.Nodes.{children_still}
 use Rattle.dom_tree.proofs.Searching.{start, next_can, next_going, next_found, none_found}
 use Rattle.dom_tree.proofs.NodeSearch.{element_is, element_parent, other_searched, here_searched, below_searched, children_can}
 use Rattle.dom_tree.proofs.ids.+find.Goals as goal
@@ -42,7 +42,7 @@ find_among-returns-then-is_some-clause-found g t c =
     let node = get_or c.args.nodes.now c.loop-node.node-index (cell 0) in
     next_found (heap old) c.args.id.now old one two c.args.nodes.now c.loop-node.node-index c.args.visited.now c.loop-node.visited c.find_at.new.visited (cell 0) c.in_ok-found.found c.loop-node-test.true c.loop-node.invariant.going
     (sym c.is_some.ensures ∙ c.if-is_some.true)
-    (still_back (λ G. (elements : List CellName) → Elements G (node ∷ []) elements → Searched G c.args.id.now one two elements c.in_ok-found.found c.loop-node.visited c.find_at.new.visited) old one c.loop-node.invariant.still c.in_ok-found.ensures.found)
+    (still_back (λ G. (nodes : List CellName) → InTreeOrder G (node ∷ []) nodes → Searched G c.args.id.now one two nodes c.in_ok-found.found c.loop-node.visited c.find_at.new.visited) old one c.loop-node.invariant.still c.in_ok-found.ensures.found)
 
 pub find_among-returns-then-is_some-clause-still : goal.find_among-returns-then-is_some-clause-still
 find_among-returns-then-is_some-clause-still g t c = Still-trans _ _ _ c.loop-node.invariant.still c.find_at.ensures.still
@@ -57,7 +57,7 @@ find_among-loop-node-preserved g t c =
       still = Still-trans _ _ _ c.loop-node.invariant.still c.find_at.ensures.still;
       going = next_going (heap old) c.args.id.now old one two c.args.nodes.now c.loop-node.node-index c.args.visited.now c.loop-node.visited c.find_at.new.visited (cell 0) c.in_ok-found.found c.loop-node-test.true c.loop-node.invariant.going
           (sym c.is_some.ensures ∙ c.if-is_some.false)
-          (still_back (λ G. (elements : List CellName) → Elements G (node ∷ []) elements → Searched G c.args.id.now one two elements c.in_ok-found.found c.loop-node.visited c.find_at.new.visited) old one c.loop-node.invariant.still c.in_ok-found.ensures.found);
+          (still_back (λ G. (nodes : List CellName) → InTreeOrder G (node ∷ []) nodes → Searched G c.args.id.now one two nodes c.in_ok-found.found c.loop-node.visited c.find_at.new.visited) old one c.loop-node.invariant.still c.in_ok-found.ensures.found);
     }
 
 pub find_among-returns-clause-found : goal.find_among-returns-clause-found
@@ -98,8 +98,8 @@ find_at-find_among-requires g t c κs within =
     let old = g.C.Cells.seen c.args.cells.now in
     let one = g.C.Cells.seen c.answer_at.new.cells in
     let two = g.C.Cells.seen c.answer_at-2.new.cells in
-    let cells = c.cells_of.result.now in
-    let same = children_still old one c.args.node cells c.in_ok-answer-2.answer c.answer_at.ensures.still c.cells_of.ensures c.in_ok-answer-2.ensures.answer in
+    let cells = c.cells.result.now in
+    let same = children_still old one c.args.node cells c.in_ok-answer-2.answer c.answer_at.ensures.still c.cells.ensures c.in_ok-answer-2.ensures.answer in
     let can = children_can (heap old) c.args.node c.args.visited.now c.requires.ready
     (element_is (heap old) c.args.node c.kind_of.result.now c.is_element.result _ c.kind_of.ensures c.is_element.ensures c.if-not-is_element.false) in
     let ready : CanSearch (heap two) cells (c.args.visited.now + 1) =
@@ -115,15 +115,15 @@ find_at-returns-clause-found g t c =
     let two = g.C.Cells.seen c.answer_at-2.new.cells in
     let last = g.C.Cells.seen c.find_among.new.cells in
     let count = c.args.visited.now in
-    let cells = c.cells_of.result.now in
-    let same = children_still old one c.args.node cells c.in_ok-answer-2.answer c.answer_at.ensures.still c.cells_of.ensures c.in_ok-answer-2.ensures.answer in
+    let cells = c.cells.result.now in
+    let same = children_still old one c.args.node cells c.in_ok-answer-2.answer c.answer_at.ensures.still c.cells.ensures c.in_ok-answer-2.ensures.answer in
     IfOk-weaker c.find_among.result _ _
     (λ found says. below_searched (heap old) c.args.id.now old one two last c.args.node found count c.find_among.new.visited c.in_ok-name.name c.in_ok-answer.answer c.in_ok-answer-2.answer c.is_text.result
     (element_is (heap old) c.args.node c.kind_of.result.now c.is_element.result _ c.kind_of.ensures c.is_element.ensures c.if-not-is_element.false)
     (c.in_ok-name.ensures.cases ∙ c.requires.attribute) c.in_ok-answer.ensures.answer c.in_ok-answer.ensures.asks c.is_text.ensures c.if-is_text.false
     (c.in_ok-answer-2.ensures.answer ∙ ap (λ H. H.at (place c.args.node Children)) (Still-heap old one c.answer_at.ensures.still)) c.in_ok-answer-2.ensures.asks
-    (subst (λ xs. (elements : List CellName) → Elements (heap old) xs elements → Searched (heap old) c.args.id.now two last elements found (count + 1) c.find_among.new.visited) same
-    (still_back (λ G. (elements : List CellName) → Elements G cells elements → Searched G c.args.id.now two last elements found (count + 1) c.find_among.new.visited) old two (Still-trans old one two c.answer_at.ensures.still c.answer_at-2.ensures.still) says)))
+    (subst (λ xs. (nodes : List CellName) → InTreeOrder (heap old) xs nodes → Searched (heap old) c.args.id.now two last nodes found (count + 1) c.find_among.new.visited) same
+    (still_back (λ G. (nodes : List CellName) → InTreeOrder G cells nodes → Searched G c.args.id.now two last nodes found (count + 1) c.find_among.new.visited) old two (Still-trans old one two c.answer_at.ensures.still c.answer_at-2.ensures.still) says)))
     c.find_among.ensures.found
 
 pub find_at-returns-clause-still : goal.find_at-returns-clause-still

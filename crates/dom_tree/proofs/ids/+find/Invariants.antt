@@ -4,7 +4,7 @@ use Rattle.cell_places.specs.Rooted.{Still}
 use Rattle.dom_tree.proofs.Searching.{Going}
 use Rattle.dom_tree.proofs.ids.+find.Given as goal
 
--- how many elements more can be counted
+-- how many nodes more can be counted
 abbrev left : ℕ → ℕ
 left count = 2 * (4000000000 - count)
 

@@ -1,9 +1,10 @@
 use Rattle.std.proofs.Common.{ℕ, ◌^◌, ◌<◌, ◌≤◌, arith}
 use Rattle.std.proofs.Math.Nat.{pow-le-pow_right}
+use Rattle.http_wire.specs.Bounds.{length_digits}
 use Rattle.http_wire.proofs.lengths.number_of.Goals as goal
 
 -- one digit more than at most 18 digits
-digit_room : (n i : ℕ) → n < 10 ^ i → i < 19 → n < 10 ^ 18
+digit_room : (n i : ℕ) → n < 10 ^ i → i < length_digits → n < 10 ^ 18
 digit_room n i small short =
     let few : i ≤ 18 = omega arith in
     let power : 10 ^ i ≤ 10 ^ 18 = pow-le-pow_right {n = 10} (omega arith) few in

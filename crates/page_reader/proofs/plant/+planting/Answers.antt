@@ -5,7 +5,7 @@ use Rattle.cell_places.specs.Heap.{place}
 use Rattle.cell_places.specs.View.{heap}
 use Rattle.cell_places.specs.Valid.{CanAsk}
 use Rattle.cell_places.proofs.Runs.{Rooted-refl, Rooted-trans}
-use Rattle.dom_tree.specs.Trees.{HaveNamesOnce, none}
+use Rattle.tree_shape.specs.Trees.{HaveNamesOnce, none}
 use Rattle.page_reader.specs.NodeTrees.{node_tree, trees_of}
 use Rattle.page_reader.specs.Planting.{node_count, root_names, children_acts, trees_acts}
 use Rattle.page_reader.proofs.PlantingSteps.{ask_ran, names_below, element_is, element_more, is_made, attributes_named, can_fill, element_ran, taken_of, can_plant, turn_is, names_pushed, rooted_ran}

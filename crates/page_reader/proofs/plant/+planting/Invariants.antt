@@ -5,7 +5,7 @@ use Rattle.cell_places.specs.View.{heap, run}
 use Rattle.cell_places.specs.Valid.{CanAsk}
 use Rattle.cell_places.specs.Rooted.{Rooted}
 use Rattle.cell_places.specs.Start.{node_prototype}
-use Rattle.dom_tree.specs.Trees.{HaveNamesOnce, none}
+use Rattle.tree_shape.specs.Trees.{HaveNamesOnce, none}
 use Rattle.page_reader.specs.NodeTrees.{node_tree, trees_of}
 use Rattle.page_reader.specs.Planting.{node_count, root_names, trees_acts}
 use Rattle.page_reader.proofs.plant.+planting.Given as goal

@@ -3,7 +3,7 @@ use Rattle.cell_places.specs.declared.place.Slot.TheVariants as s
 use Rattle.cell_places.specs.Heap.{place}
 use Rattle.cell_places.specs.View.{heap}
 use Rattle.cell_places.specs.Start.{document_cell}
-use Rattle.dom_tree.specs.Trees.{none}
+use Rattle.tree_shape.specs.Trees.{none}
 use Rattle.page_reader.specs.NodeTrees.{node_tree}
 use Rattle.page_reader.specs.Planting.{trees_acts, children_acts}
 use Rattle.page_reader.proofs.PlantingSteps.{ask_ran, names_below, rooted_ran, root_named, root_done}

@@ -2,6 +2,7 @@ use Rattle.std.proofs.Common.{◌≤◌, ap, List, length, arith}
 use Rattle.page_reader.specs.declared.node.Node.{Node}
 use Rattle.page_reader.specs.declared.node.Slice.{Slice}
 use Rattle.page_reader.specs.Content.{found}
+use Rattle.page_reader.specs.Bounds.{page_bytes}
 use Rattle.page_reader.proofs.WholePages.{page_of, fault_found, fault_only, fault_same, read_no_fault, read_few}
 use Rattle.page_reader.proofs.whole.read_text.Goals as goal
 
@@ -9,7 +10,7 @@ pub numbered-requires : goal.numbered-requires
 numbered-requires c =
     let few = (read_few c.args.text.now (found c.in-Ok.root c.read_characters.new.slices) c.in-Ok.ensures.0 c.utf8.text c.in-Ok.ensures.1 c.in-Ok.ensures.2).scripts in
     let same = ap (λ (l : List Slice). length l) c.as_slice.ensures in
-    let short : length c.args.text.now ≤ 1048576 = c.requires in
+    let short : length c.args.text.now ≤ page_bytes = c.requires in
     omega arith
 
 pub returns-in-Ok-clause-found : goal.returns-in-Ok-clause-found

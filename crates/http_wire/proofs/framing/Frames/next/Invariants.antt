@@ -1,5 +1,6 @@
 use Rattle.std.proofs.Common.{◌≡◌, ◌-◌, vec_len}
 use Rattle.page_units.specs.Outside.{before}
+use Rattle.http_wire.specs.Bounds.{held_bytes}
 use Rattle.http_wire.specs.Outcomes.{IsUnfinished}
 use Rattle.http_wire.specs.Reading.{ReadsOn}
 use Rattle.http_wire.proofs.framing.Frames.next.Given as goal
@@ -17,4 +18,4 @@ invariant-reading g l =
     }
 
 abbrev pub decreases-reading : goal.decreases-reading
-decreases-reading g l = 81920 - vec_len l.self.held
+decreases-reading g l = held_bytes - vec_len l.self.held

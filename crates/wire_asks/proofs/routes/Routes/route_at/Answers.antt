@@ -1,5 +1,5 @@
 use Rattle.std.proofs.Common.{arith, ap, sym, ◌∙◌}
-use Rattle.wire_asks.proofs.Fronts.{same_route}
+use Rattle.wire_asks.proofs.Prefixes.{same_route}
 use Rattle.wire_asks.proofs.Seeks.{finds, bytes_text, value_of}
 use Rattle.wire_asks.proofs.routes.Routes.route_at.Goals as goal
 

@@ -1,8 +1,0 @@
-use Rattle.std.proofs.Common.{◌≡◌, take}
-use Rattle.std.specs.List.{flat_map}
-use Rattle.dom_tree.specs.TreeText.{escape_value}
-use Rattle.dom_tree.proofs.escape.value_units.Given as goal
-
--- so far the first units were written
-abbrev pub invariant-loop-unit : goal.invariant-loop-unit
-invariant-loop-unit l = l.written.items ≡ flat_map escape_value (take l.unit-index l.units)

@@ -1,0 +1,4 @@
+pub mod Asking
+pub mod Depths
+pub mod Nodes
+pub mod SoundTrees
