@@ -1,14 +1,14 @@
--- Fronts of a stream go on by one request, and end.
+-- A stream goes on by one request, and ends.
 use Rattle.std.proofs.Common.{◌≡◌, ◌<◌, ◌≤◌, ◌+◌, ℕ, Bool, true, false, List, [], ◌∷◌, ◌++◌, length, take, Option, Some, None, Ok, inl, inr, refl, sym, ap, subst, ◌∙◌, append_assoc, arith}
 use Rattle.std.specs.Prelude.{◌||◌}
 use Rattle.std.proofs.lemmas.List.{append-nil}
+use Rattle.std.proofs.lemmas.Grind.{flat_map-append}
 use Rattle.page_units.specs.Outside.{before, after}
-use Rattle.cell_places.specs.Heap.{Heap}
+use Rattle.page_units.specs.declared.limits.Limit.TheVariants as Limit
 use Rattle.http_wire.specs.declared.wire.Incoming.{Incoming}
 use Rattle.http_wire.specs.declared.wire.Next.TheVariants as next
 use Rattle.http_wire.specs.Messages.{Message}
 use Rattle.http_wire.specs.Outcomes.{IsUnfinished}
-use Rattle.http_wire.specs.Incoming.{Comes}
 use Rattle.http_wire.specs.Requests.{EndsAs, RequestsOf, ended, truncated}
 use Rattle.http_wire.specs.Requests as w
 use Rattle.http_wire.specs.Wired.{NextStream, NextWhole}
@@ -16,38 +16,56 @@ use Rattle.wire_replies.specs.ReplyBytes.{reply_bytes}
 use Rattle.wire_replies.specs.declared.reply.Reply as written
 use Rattle.crom_host.specs.Replying.{Reply, bytes_of, IsOf}
 use Rattle.crom_host.specs.Plain as p
-use Rattle.crom_host.specs.Plain.{Answered, ends_behind, ending_behind, is_halt, PlainRun, Ending, at_end, closed, halted_so, cut_off, at_bound}
-use Rattle.crom_host.specs.Stream as s
-use Rattle.crom_host.specs.Stream.{Front, RunsTo, GivesUp, StopsWriting, StopsReading}
+use Rattle.crom_host.specs.Plain.{Settings, PlainHost, Answers, Answered, ends_behind, ending_of, ending_behind, is_halt, Sent, bytes_sent, PlainRun, Ending, at_end, closed, halted_so, cut_off, at_bound, paused}
+use Rattle.crom_host.specs.Stream.{RunsTo, GivesUp, StopsWriting, StopsReading}
 
--- ---- fronts and runs
+-- ---- a run after what was answered
 
--- a front goes on by one request
-pub front_push : (most : ℕ) (H M E : Heap) (n k : ℕ) (bytes replies rest behind : List ℕ) (i : Incoming) (r : Reply)
-    → Front most H n bytes replies M k rest → k < most → Comes rest i behind → Answered M i.asked [] [] r E → ends_behind i ≡ false
-    → Front most H n bytes (replies ++ bytes_of r false) E (k + 1) behind
-front_push most H _ E n _ bytes _ _ behind i r (s.none _ _ _) few comes answered open_yet =
-    subst (λ (z : List ℕ). Front most H n bytes z E (n + 1) behind) (append-nil (bytes_of r false))
-    (s.more H E E n (n + 1) bytes behind behind [] i r few comes answered open_yet (s.none E (n + 1) behind))
-front_push most H M E n k bytes _ rest behind i r (s.more _ mid _ _ _ _ next _ replies j q few1 comes1 answered1 open1 others) few comes answered open_yet =
-    subst (λ (z : List ℕ). Front most H n bytes z E (k + 1) behind) (sym (append_assoc (bytes_of q false) replies (bytes_of r false)))
-    (s.more H mid E n (k + 1) bytes next behind (replies ++ bytes_of r false) j q few1 comes1 answered1 open1
-    (front_push most mid M E (n + 1) k next replies rest behind i r others few comes answered open_yet))
+never_paused : (halts : Bool) (rest : List ℕ) → ending_of halts ≡ paused rest → ⊥
+never_paused true rest e = absurd (cc)
+never_paused false rest e = absurd (cc)
 
--- a front with a run behind it is a run
-pub front_run : (most : ℕ) (H M E : Heap) (n k m : ℕ) (bytes replies rest tail : List ℕ) (e : Ending)
-    → Front most H n bytes replies M k rest → PlainRun most M k rest [] [] tail E m e → PlainRun most H n bytes [] [] (replies ++ tail) E m e
-front_run most H _ E n _ m bytes _ _ tail e (s.none _ _ _) run = run
-front_run most H M E n k m bytes _ rest tail e (s.more _ mid _ _ _ _ next _ replies j q few1 comes1 answered1 open1 others) run =
-    subst (λ (z : List ℕ). PlainRun most H n bytes [] [] z E m e) (sym (append_assoc (bytes_of q false) replies tail))
-    (p.more H mid E n m bytes next j [] [] [] [] q (replies ++ tail) e few1 comes1 answered1 open1
-    (front_run most mid M E (n + 1) k m next replies rest tail e others run))
+same_rest : (bytes rest : List ℕ) → paused bytes ≡ paused rest → bytes ≡ rest
+same_rest bytes rest e = cc
 
--- a front with an end behind it, which nothing is written of
-run_of_front : (most : ℕ) (H M E : Heap) (n k m : ℕ) (bytes replies rest : List ℕ) (e : Ending)
-    → Front most H n bytes replies M k rest → PlainRun most M k rest [] [] [] E m e → PlainRun most H n bytes [] [] replies E m e
-run_of_front most H M E n k m bytes replies rest e front run =
-    subst (λ (z : List ℕ). PlainRun most H n bytes [] [] z E m e) (append-nil replies) (front_run most H M E n k m bytes replies rest [] e front run)
+-- a run that pauses, with a run after it, is a run
+pub run_append : (s : Settings) (h m h' : PlainHost) (n k l : ℕ) (bytes rest : List ℕ) (gs ps gs' ps' : Answers) (sent tail : List Sent) (mid e : Ending)
+    → PlainRun s h n bytes gs ps sent m k mid → mid ≡ paused rest → PlainRun s m k rest gs' ps' tail h' l e → PlainRun s h n bytes (gs ++ gs') (ps ++ ps') (sent ++ tail) h' l e
+run_append s _ _ h' _ _ l _ rest _ _ gs' ps' _ tail _ e (p.end h n bytes stops) is run = absurd (cc)
+run_append s _ _ h' _ _ l _ rest _ _ gs' ps' _ tail _ e (p.cut h n bytes stops) is run = absurd (cc)
+run_append s _ _ h' _ _ l _ rest _ _ gs' ps' _ tail _ e (p.bound h n bytes more i full comes) is run = absurd (cc)
+run_append s _ _ h' _ _ l _ rest _ _ gs' ps' _ tail _ e (p.pause h n bytes) is run =
+    subst (λ (z : List ℕ). PlainRun s h n z gs' ps' tail h' l e) (sym (same_rest bytes rest is)) run
+run_append s _ _ h' _ _ l _ rest _ _ gs' ps' _ tail _ e (p.last h m n bytes more i gets posts r few comes answered closes) is run =
+    absurd (never_paused (is_halt i.asked) rest is)
+run_append s _ _ h' _ _ l _ rest _ _ gs' ps' _ tail _ e (p.more h next m n k bytes more i g q gs qs r sent mid few comes answered goes others) is run =
+    subst (λ (z : Answers). PlainRun s h n bytes z ((q ++ qs) ++ ps') (record { reply = r; closes = false } ∷ (sent ++ tail)) h' l e) (sym (append_assoc g gs gs'))
+    (subst (λ (z : Answers). PlainRun s h n bytes (g ++ (gs ++ gs')) z (record { reply = r; closes = false } ∷ (sent ++ tail)) h' l e) (sym (append_assoc q qs ps'))
+    (p.more h next h' n l bytes more i g q (gs ++ gs') (qs ++ ps') r (sent ++ tail) e few comes answered goes
+    (run_append s next m h' (n + 1) k l more rest gs qs gs' ps' sent tail mid e others is run)))
+
+-- what was written of the one and then of the other
+pub written_append : (s : Settings) (h m h' : PlainHost) (n k l : ℕ) (bytes rest written : List ℕ) (tail : List Sent) (e : Ending)
+    → RunsTo (paused rest) s h m n k bytes [] [] written → PlainRun s m k rest [] [] tail h' l e → RunsTo e s h h' n l bytes [] [] (written ++ bytes_sent tail)
+written_append s h m h' n k l bytes rest written tail e first run = (
+  first.0 ++ tail,
+  run_append s h m h' n k l bytes rest [] [] [] [] first.0 tail (paused rest) e first.1 refl run,
+  ap (λ (z : List ℕ). z ++ bytes_sent tail) first.2 ∙ sym (flat_map-append (λ (r : Sent). bytes_of r.reply r.closes) first.0 tail),
+)
+
+-- the same, where nothing is written after it
+pub run_of : (s : Settings) (h m h' : PlainHost) (n k l : ℕ) (bytes rest written : List ℕ) (e : Ending)
+    → RunsTo (paused rest) s h m n k bytes [] [] written → PlainRun s m k rest [] [] [] h' l e → RunsTo e s h h' n l bytes [] [] written
+run_of s h m h' n k l bytes rest written e first run =
+    subst (RunsTo e s h h' n l bytes [] []) (append-nil written) (written_append s h m h' n k l bytes rest written [] e first run)
+
+-- and where one reply is
+pub sent_one : (s : Settings) (h m h' : PlainHost) (n k l : ℕ) (bytes rest written : List ℕ) (r : Reply) (closes : Bool) (e : Ending)
+    → RunsTo (paused rest) s h m n k bytes [] [] written → PlainRun s m k rest [] [] (record { reply = r; closes = closes } ∷ []) h' l e
+    → RunsTo e s h h' n l bytes [] [] (written ++ bytes_of r closes)
+sent_one s h m h' n k l bytes rest written r closes e first run =
+    subst (λ (z : List ℕ). RunsTo e s h h' n l bytes [] [] (written ++ z)) (append-nil (bytes_of r closes))
+    (written_append s h m h' n k l bytes rest written (record { reply = r; closes = closes } ∷ []) e first run)
 
 -- what the bytes that begin no request are
 stops_so : (bytes : List ℕ) (e : w.Ending) → RequestsOf bytes [] e → EndsAs bytes e
@@ -55,17 +73,17 @@ stops_so bytes e (w.stop _ _ h) = h
 
 -- ---- what was done so far, between two requests
 
--- For bytes and an output that are told: the requests of a front are answered, and what is ahead is behind it.
-pub record Reached (most : ℕ) (H H' : Heap) (served served' : ℕ) (bytes old : List ℕ) (ahead told' : Option (List ℕ)) : Type 0 where
-  pub replies : List ℕ
+-- For bytes and an output that are told: the first requests are answered, and what is ahead comes after them.
+pub record Reached (s : Settings) (h h' : PlainHost) (served served' : ℕ) (bytes old : List ℕ) (ahead told' : Option (List ℕ)) : Type 0 where
+  pub written : List ℕ
   pub rest : List ℕ
-  pub front : Front most H served bytes replies H' served' rest
+  pub prefix : RunsTo (paused rest) s h h' served served' bytes [] [] written
   pub goes_on : ahead ≡ Some rest
-  pub wrote : told' ≡ Some (old ++ replies)
+  pub wrote : told' ≡ Some (old ++ written)
 
 -- the same, where they are told
-pub record Progress (most : ℕ) (H H' : Heap) (served served' : ℕ) (left ahead told told' : Option (List ℕ)) : Type 0 where
-  pub reached : (bytes old : List ℕ) → left ≡ Some bytes → told ≡ Some old → Reached most H H' served served' bytes old ahead told'
+pub record Progress (s : Settings) (h h' : PlainHost) (served served' : ℕ) (left ahead told told' : Option (List ℕ)) : Type 0 where
+  pub reached : (bytes old : List ℕ) → left ≡ Some bytes → told ≡ Some old → Reached s h h' served served' bytes old ahead told'
 
 -- Where the bytes are whole requests within the bound, so are those ahead.
 pub record Wholes (most served served' : ℕ) (left ahead : Option (List ℕ)) : Type 0 where
@@ -81,12 +99,12 @@ starts_ahead : (held : List ℕ) (left : Option (List ℕ)) → held ≡ [] → 
 starts_ahead held left e = ap (λ (z : List ℕ). before z left) e ∙ before_nothing left
 
 -- nothing was asked yet
-pub started : (most : ℕ) (H : Heap) (served : ℕ) (left told : Option (List ℕ)) (held : List ℕ) → held ≡ [] → Progress most H H served served left (before held left) told told
-started most H served left told held e = record {
+pub started : (s : Settings) (h : PlainHost) (served : ℕ) (left told : Option (List ℕ)) (held : List ℕ) → held ≡ [] → Progress s h h served served left (before held left) told told
+started s h served left told held e = record {
   reached = λ bytes old is_left is_told. record {
-    replies = [];
+    written = [];
     rest = bytes;
-    front = s.none H served bytes;
+    prefix = ([], p.pause h served bytes, refl);
     goes_on = starts_ahead held left e ∙ is_left;
     wrote = is_told ∙ ap Some (sym (append-nil old));
   };
@@ -115,19 +133,20 @@ after_told t t' old replies more was went =
     went ∙ ap (λ (z : Option (List ℕ)). after z more) was ∙ ap Some (append_assoc old replies more)
 
 -- one more request is answered, and ends nothing
-pub went_on : (most : ℕ) (H M E : Heap) (served n : ℕ) (left ahead ahead' told t t' : Option (List ℕ)) (i : Incoming) (r : Reply)
-    → Progress most H M served n left ahead told t → n < most → NextStream (Ok (next.Request i)) ahead ahead' → Answered M i.asked [] [] r E → ends_behind i ≡ false → t' ≡ after t (bytes_of r false)
-    → Progress most H E served (n + 1) left ahead' told t'
-went_on most H M E served n left ahead ahead' told t t' i r progress few stream answered open_yet went = record {
+pub went_on : (s : Settings) (h m h' : PlainHost) (served n : ℕ) (left ahead ahead' told t t' : Option (List ℕ)) (i : Incoming) (r : Reply)
+    → Progress s h m served n left ahead told t → n < s.limits Limit.Served → NextStream (Ok (next.Request i)) ahead ahead' → Answered s m i.asked [] [] r h' → ends_behind i ≡ false → t' ≡ after t (bytes_of r false)
+    → Progress s h h' served (n + 1) left ahead' told t'
+went_on s h m h' served n left ahead ahead' told t t' i r progress few stream answered open_yet went = record {
   reached = λ bytes old is_left is_told.
       let q = progress.reached bytes old is_left is_told in
       let c = stream q.rest q.goes_on in
       record {
-        replies = q.replies ++ bytes_of r false;
+        written = q.written ++ bytes_of r false;
         rest = c.0;
-        front = front_push most H M E served n bytes q.replies q.rest c.0 i r q.front few c.2 answered open_yet;
+        prefix = sent_one s h m h' served n (n + 1) bytes q.rest q.written r false (paused c.0) q.prefix
+            (p.more m h' h' n (n + 1) q.rest c.0 i [] [] [] [] r [] (paused c.0) few c.2 answered open_yet (p.pause h' (n + 1) c.0));
         goes_on = c.1;
-        wrote = after_told t t' old q.replies (bytes_of r false) q.wrote went;
+        wrote = after_told t t' old q.written (bytes_of r false) q.wrote went;
       };
 }
 
@@ -142,93 +161,99 @@ whole_on most served n left ahead ahead' i wholes says = record {
 
 -- ---- the ends of a stream
 
--- the stream ends behind a front
-pub ended_so : (most : ℕ) (H M : Heap) (served n : ℕ) (left ahead told t : Option (List ℕ)) → Progress most H M served n left ahead told t → ((all : List ℕ) → ahead ≡ Some all → RequestsOf all [] ended)
-    → (bytes old : List ℕ) → left ≡ Some bytes → told ≡ Some old → (gained : List ℕ) × (t ≡ Some (old ++ gained)) × RunsTo at_end most H M served n bytes gained
-ended_so most H M served n left ahead told t progress stream bytes old is_left is_told =
+-- the stream ends after what was answered
+pub ended_so : (s : Settings) (h m : PlainHost) (served n : ℕ) (left ahead told t : Option (List ℕ)) → Progress s h m served n left ahead told t → ((all : List ℕ) → ahead ≡ Some all → RequestsOf all [] ended)
+    → (bytes old : List ℕ) → left ≡ Some bytes → told ≡ Some old → (gained : List ℕ) × (t ≡ Some (old ++ gained)) × RunsTo at_end s h m served n bytes [] [] gained
+ended_so s h m served n left ahead told t progress stream bytes old is_left is_told =
     let q = progress.reached bytes old is_left is_told in
     let so : EndsAs q.rest ended = stops_so q.rest ended (stream q.rest q.goes_on) in
-    (q.replies, q.wrote, run_of_front most H M M served n n bytes q.replies q.rest at_end q.front (p.end M n q.rest so))
+    (q.written, q.wrote, run_of s h m m served n n bytes q.rest q.written at_end q.prefix (p.end m n q.rest so))
 
-pub truncated_so : (most : ℕ) (H M : Heap) (served n : ℕ) (left ahead told t : Option (List ℕ)) → Progress most H M served n left ahead told t → ((all : List ℕ) → ahead ≡ Some all → RequestsOf all [] truncated)
-    → (bytes old : List ℕ) → left ≡ Some bytes → told ≡ Some old → (gained : List ℕ) × (t ≡ Some (old ++ gained)) × RunsTo cut_off most H M served n bytes gained
-truncated_so most H M served n left ahead told t progress stream bytes old is_left is_told =
+pub truncated_so : (s : Settings) (h m : PlainHost) (served n : ℕ) (left ahead told t : Option (List ℕ)) → Progress s h m served n left ahead told t → ((all : List ℕ) → ahead ≡ Some all → RequestsOf all [] truncated)
+    → (bytes old : List ℕ) → left ≡ Some bytes → told ≡ Some old → (gained : List ℕ) × (t ≡ Some (old ++ gained)) × RunsTo cut_off s h m served n bytes [] [] gained
+truncated_so s h m served n left ahead told t progress stream bytes old is_left is_told =
     let q = progress.reached bytes old is_left is_told in
     let so : EndsAs q.rest truncated = stops_so q.rest truncated (stream q.rest q.goes_on) in
-    (q.replies, q.wrote, run_of_front most H M M served n n bytes q.replies q.rest cut_off q.front (p.cut M n q.rest so))
+    (q.written, q.wrote, run_of s h m m served n n bytes q.rest q.written cut_off q.prefix (p.cut m n q.rest so))
 
-pub bound_so : (most : ℕ) (H M : Heap) (served n : ℕ) (left ahead ahead' told t : Option (List ℕ)) (i : Incoming) → Progress most H M served n left ahead told t → NextStream (Ok (next.Request i)) ahead ahead'
-    → n ≡ most → (bytes old : List ℕ) → left ≡ Some bytes → told ≡ Some old → (gained : List ℕ) × (t ≡ Some (old ++ gained)) × RunsTo at_bound most H M served n bytes gained
-bound_so most H M served n left ahead ahead' told t i progress stream full bytes old is_left is_told =
+pub bound_so : (s : Settings) (h m : PlainHost) (served n : ℕ) (left ahead ahead' told t : Option (List ℕ)) (i : Incoming) → Progress s h m served n left ahead told t → NextStream (Ok (next.Request i)) ahead ahead'
+    → n ≡ s.limits Limit.Served → (bytes old : List ℕ) → left ≡ Some bytes → told ≡ Some old → (gained : List ℕ) × (t ≡ Some (old ++ gained)) × RunsTo at_bound s h m served n bytes [] [] gained
+bound_so s h m served n left ahead ahead' told t i progress stream full bytes old is_left is_told =
     let q = progress.reached bytes old is_left is_told in
     let c = stream q.rest q.goes_on in
-    let stop : PlainRun most M n q.rest [] [] [] M n at_bound = subst (λ (k : ℕ). PlainRun most M k q.rest [] [] [] M k at_bound) (sym full) (p.bound M q.rest c.0 i c.2) in
-    (q.replies, q.wrote, run_of_front most H M M served n n bytes q.replies q.rest at_bound q.front stop)
+    (q.written, q.wrote, run_of s h m m served n n bytes q.rest q.written at_bound q.prefix (p.bound m n q.rest c.0 i full c.2))
 
-pub read_fault_so : (most : ℕ) (H M : Heap) (served n : ℕ) (left ahead told t left' : Option (List ℕ)) (kept : List ℕ) → Progress most H M served n left ahead told t → before kept left' ≡ ahead → IsUnfinished kept
-    → (bytes old : List ℕ) → left ≡ Some bytes → told ≡ Some old → (gained : List ℕ) × (t ≡ Some (old ++ gained)) × StopsReading most H M served n bytes gained left'
-read_fault_so most H M served n left ahead told t left' kept progress same unfinished bytes old is_left is_told =
+pub read_fault_so : (s : Settings) (h m : PlainHost) (served n : ℕ) (left ahead told t left' : Option (List ℕ)) (kept : List ℕ) → Progress s h m served n left ahead told t → before kept left' ≡ ahead → IsUnfinished kept
+    → (bytes old : List ℕ) → left ≡ Some bytes → told ≡ Some old → (gained : List ℕ) × (t ≡ Some (old ++ gained)) × StopsReading s h m served n bytes [] [] gained left'
+read_fault_so s h m served n left ahead told t left' kept progress same unfinished bytes old is_left is_told =
     let q = progress.reached bytes old is_left is_told in
-    (q.replies, q.wrote, record { rest = q.rest; front = q.front; kept = kept; unfinished = unfinished; split = sym q.goes_on ∙ sym same })
+    (q.written, q.wrote, record { rest = q.rest; prefix = q.prefix; kept = kept; unfinished = unfinished; split = sym q.goes_on ∙ sym same })
 
 -- memory was refused between two replies
-pub gives_up : (most : ℕ) (H M : Heap) (served n : ℕ) (left ahead told t : Option (List ℕ)) → Progress most H M served n left ahead told t
-    → (bytes old : List ℕ) → left ≡ Some bytes → told ≡ Some old → (gained : List ℕ) × (t ≡ Some (old ++ gained)) × GivesUp most H served bytes gained
-gives_up most H M served n left ahead told t progress bytes old is_left is_told =
+pub gives_up : (s : Settings) (h m : PlainHost) (served n : ℕ) (left ahead told t : Option (List ℕ)) → Progress s h m served n left ahead told t
+    → (bytes old : List ℕ) → left ≡ Some bytes → told ≡ Some old → (gained : List ℕ) × (t ≡ Some (old ++ gained)) × GivesUp s h served bytes [] [] gained
+gives_up s h m served n left ahead told t progress bytes old is_left is_told =
     let q = progress.reached bytes old is_left is_told in
-    (q.replies, q.wrote, inl (M, n, q.rest, q.front))
+    (q.written, q.wrote, inl (m, n, q.rest, q.prefix))
 
 -- memory is refused before all
-pub never_began : (most : ℕ) (H : Heap) (served : ℕ) (left told : Option (List ℕ))
-    → (bytes old : List ℕ) → left ≡ Some bytes → told ≡ Some old → (gained : List ℕ) × (told ≡ Some (old ++ gained)) × GivesUp most H served bytes gained
-never_began most H served left told bytes old is_left is_told =
-    ([], is_told ∙ ap Some (sym (append-nil old)), inl (H, served, bytes, s.none H served bytes))
+pub never_began : (s : Settings) (h : PlainHost) (served : ℕ) (left told : Option (List ℕ))
+    → (bytes old : List ℕ) → left ≡ Some bytes → told ≡ Some old → (gained : List ℕ) × (told ≡ Some (old ++ gained)) × GivesUp s h served bytes [] [] gained
+never_began s h served left told bytes old is_left is_told =
+    ([], is_told ∙ ap Some (sym (append-nil old)), inl (h, served, bytes, ([], p.pause h served bytes, refl)))
 
 -- a reply was written in part
-pub stops_writing : (most : ℕ) (H M E : Heap) (served n part : ℕ) (left ahead ahead' told t t' : Option (List ℕ)) (i : Incoming) (r : Reply)
-    → Progress most H M served n left ahead told t → n < most → NextStream (Ok (next.Request i)) ahead ahead' → Answered M i.asked [] [] r E → t' ≡ after t (take part (bytes_of r (ends_behind i)))
-    → (bytes old : List ℕ) → left ≡ Some bytes → told ≡ Some old → (gained : List ℕ) × (t' ≡ Some (old ++ gained)) × StopsWriting most H E served (n + 1) bytes gained
-stops_writing most H M E served n part left ahead ahead' told t t' i r progress few stream answered went bytes old is_left is_told =
+pub stops_writing : (s : Settings) (h m h' : PlainHost) (served n part : ℕ) (left ahead ahead' told t t' : Option (List ℕ)) (i : Incoming) (r : Reply)
+    → Progress s h m served n left ahead told t → n < s.limits Limit.Served → NextStream (Ok (next.Request i)) ahead ahead' → Answered s m i.asked [] [] r h' → t' ≡ after t (take part (bytes_of r (ends_behind i)))
+    → (bytes old : List ℕ) → left ≡ Some bytes → told ≡ Some old → (gained : List ℕ) × (t' ≡ Some (old ++ gained)) × StopsWriting s h h' served (n + 1) bytes [] [] gained
+stops_writing s h m h' served n part left ahead ahead' told t t' i r progress few stream answered went bytes old is_left is_told =
     let q = progress.reached bytes old is_left is_told in
     let c = stream q.rest q.goes_on in
     let some = take part (bytes_of r (ends_behind i)) in (
-      q.replies ++ some,
-      after_told t t' old q.replies some q.wrote went,
+      q.written ++ some,
+      after_told t t' old q.written some q.wrote went,
       record {
-        mid = M;
+        mid = m;
         count = n;
-        replies = q.replies;
+        whole = q.written;
         rest = q.rest;
         behind = c.0;
-        front = q.front;
+        g = [];
+        p = [];
+        gs = [];
+        ps = [];
+        prefix = q.prefix;
         incoming = i;
         comes = c.2;
         reply = r;
         answered = answered;
         fits = few;
         counted = refl;
+        used_gets = refl;
+        used_posts = refl;
         part = part;
         gained = refl;
       },
     )
 
 -- memory is refused inside a reply
-pub gives_up_writing : (most : ℕ) (H M E : Heap) (served n part : ℕ) (left ahead ahead' told t t' : Option (List ℕ)) (i : Incoming) (r : Reply)
-    → Progress most H M served n left ahead told t → n < most → NextStream (Ok (next.Request i)) ahead ahead' → Answered M i.asked [] [] r E → t' ≡ after t (take part (bytes_of r (ends_behind i)))
-    → (bytes old : List ℕ) → left ≡ Some bytes → told ≡ Some old → (gained : List ℕ) × (t' ≡ Some (old ++ gained)) × GivesUp most H served bytes gained
-gives_up_writing most H M E served n part left ahead ahead' told t t' i r progress few stream answered went bytes old is_left is_told =
-    let w = stops_writing most H M E served n part left ahead ahead' told t t' i r progress few stream answered went bytes old is_left is_told in
-    (w.0, w.1, inr (E, n + 1, w.2))
+pub gives_up_writing : (s : Settings) (h m h' : PlainHost) (served n part : ℕ) (left ahead ahead' told t t' : Option (List ℕ)) (i : Incoming) (r : Reply)
+    → Progress s h m served n left ahead told t → n < s.limits Limit.Served → NextStream (Ok (next.Request i)) ahead ahead' → Answered s m i.asked [] [] r h' → t' ≡ after t (take part (bytes_of r (ends_behind i)))
+    → (bytes old : List ℕ) → left ≡ Some bytes → told ≡ Some old → (gained : List ℕ) × (t' ≡ Some (old ++ gained)) × GivesUp s h served bytes [] [] gained
+gives_up_writing s h m h' served n part left ahead ahead' told t t' i r progress few stream answered went bytes old is_left is_told =
+    let w = stops_writing s h m h' served n part left ahead ahead' told t t' i r progress few stream answered went bytes old is_left is_told in
+    (w.0, w.1, inr (h', n + 1, w.2))
 
 -- a reply closes
-pub closes_so : (most : ℕ) (H M E : Heap) (served n : ℕ) (left ahead ahead' told t t' : Option (List ℕ)) (i : Incoming) (r : Reply) (e : Ending)
-    → Progress most H M served n left ahead told t → n < most → NextStream (Ok (next.Request i)) ahead ahead' → Answered M i.asked [] [] r E → ends_behind i ≡ true → ending_behind i ≡ e → t' ≡ after t (bytes_of r true)
-    → (bytes old : List ℕ) → left ≡ Some bytes → told ≡ Some old → (gained : List ℕ) × (t' ≡ Some (old ++ gained)) × PlainRun most H served bytes [] [] gained E (n + 1) e
-closes_so most H M E served n left ahead ahead' told t t' i r e progress few stream answered closes is went bytes old is_left is_told =
+pub closes_so : (s : Settings) (h m h' : PlainHost) (served n : ℕ) (left ahead ahead' told t t' : Option (List ℕ)) (i : Incoming) (r : Reply) (e : Ending)
+    → Progress s h m served n left ahead told t → n < s.limits Limit.Served → NextStream (Ok (next.Request i)) ahead ahead' → Answered s m i.asked [] [] r h' → ends_behind i ≡ true → ending_behind i ≡ e → t' ≡ after t (bytes_of r true)
+    → (bytes old : List ℕ) → left ≡ Some bytes → told ≡ Some old → (gained : List ℕ) × (t' ≡ Some (old ++ gained)) × RunsTo e s h h' served (n + 1) bytes [] [] gained
+closes_so s h m h' served n left ahead ahead' told t t' i r e progress few stream answered closes is went bytes old is_left is_told =
     let q = progress.reached bytes old is_left is_told in
     let c = stream q.rest q.goes_on in
-    let last : PlainRun most M n q.rest [] [] (bytes_of r true) E (n + 1) e = subst (PlainRun most M n q.rest [] [] (bytes_of r true) E (n + 1)) is (p.last M E n q.rest c.0 i [] [] r few c.2 answered closes) in (
-      q.replies ++ bytes_of r true,
-      after_told t t' old q.replies (bytes_of r true) q.wrote went,
-      front_run most H M E served n (n + 1) bytes q.replies q.rest (bytes_of r true) e q.front last,
+    let sent : List Sent = record { reply = r; closes = true } ∷ [] in
+    let last : PlainRun s m n q.rest [] [] sent h' (n + 1) e = subst (PlainRun s m n q.rest [] [] sent h' (n + 1)) is (p.last m h' n q.rest c.0 i [] [] r few c.2 answered closes) in (
+      q.written ++ bytes_of r true,
+      after_told t t' old q.written (bytes_of r true) q.wrote went,
+      sent_one s h m h' served n (n + 1) bytes q.rest q.written r true e q.prefix last,
     )

@@ -1,5 +1,5 @@
 -- A loaded page, and what `/dom` replies.
-use Rattle.std.proofs.Common.{◌≡◌, ℕ, List, [], ap, ◌∙◌, subst}
+use Rattle.std.proofs.Common.{◌≡◌, ℕ, pos, List, [], ap, ◌∙◌, subst}
 use Rattle.std.specs.Prelude.{Result, Err}
 use Rattle.page_units.specs.declared.limits.Limit.TheVariants.{Weight}
 use Rattle.page_units.specs.Limits.{default_limit}
@@ -16,10 +16,10 @@ use Rattle.page_reader.specs.declared.fault.PageFault.{PageFault}
 use Rattle.page_reader.specs.declared.fault.PageFault.TheVariants.{Rule, NoMemory}
 use Rattle.page_reader.specs.Reading.{ReadsPage, NoFault}
 use Rattle.crom_host.specs.Loading.{OnlyReady}
-use Rattle.crom_host.specs.Plain.{Loads, start_moment}
+use Rattle.crom_host.specs.Plain.{default_settings, Loads}
 
 -- a page without scripts that was read into the heap of the start is loaded
-pub loaded : (H0 H1 : Heap) (page : List ℕ) (scripts : List ScriptText) → ReadsPage (ground H0 uncounted) (ground H1 uncounted) page scripts → scripts ≡ [] → H0 ≡ start (default_limit Weight) start_moment → Loads page H1
+pub loaded : (H0 H1 : Heap) (page : List ℕ) (scripts : List ScriptText) → ReadsPage (ground H0 uncounted) (ground H1 uncounted) page scripts → scripts ≡ [] → H0 ≡ start (default_limit Weight) (pos 0) → Loads default_settings page H1
 loaded H0 H1 page scripts r none e = record {
   trees = r.trees;
   reads = subst (λ (some : List ScriptText). IsPage page r.trees some) none r.page;

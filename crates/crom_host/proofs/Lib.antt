@@ -3,6 +3,7 @@ pub mod Commands
 pub mod Complete
 pub mod Counting
 pub mod Fronts
+pub mod OneRun
 pub mod Hosting
 pub mod Obeying
 pub mod Serving

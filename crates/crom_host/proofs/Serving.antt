@@ -10,7 +10,7 @@ use Rattle.page_reader.specs.Reading.{OnlyFault}
 use Rattle.crom_host.specs.declared.status.Status.TheVariants as s
 use Rattle.crom_host.specs.declared.host.Loaded.{Loaded}
 use Rattle.crom_host.specs.Loading.{LoadSays, OnlyReady}
-use Rattle.crom_host.specs.Headline.{Headline, Causes, Calm, IsRefused, Served, status_of, status_of_fault}
+use Rattle.crom_host.specs.Headline.{Headline, EndsStdio, Causes, Calm, IsRefused, Served, status_of, status_of_fault}
 
 pub headline_of : (result : Result Ended AllocError) (page bytes written : List ℕ) (left : Option (List ℕ)) → Served result page bytes written left → Headline (status_of result) page bytes written left
 headline_of (Ok End) page bytes written left served = inl served
@@ -53,3 +53,18 @@ fault_complete NoMemory none = inr refl
 pub fault_no_usage : (fault : PageFault) → status_of_fault fault ≡ s.Usage → ⊥
 fault_no_usage (Rule n a) e = absurd cc
 fault_no_usage NoMemory e = absurd cc
+
+-- serving ends so
+pub fault_ends : (fault : PageFault) → EndsStdio (status_of_fault fault)
+fault_ends (Rule n a) = tt
+fault_ends NoMemory = tt
+
+pub outcome_ends : (result : Result Ended AllocError) → EndsStdio (status_of result)
+outcome_ends (Ok End) = tt
+outcome_ends (Ok Closed) = tt
+outcome_ends (Ok Halted) = tt
+outcome_ends (Ok Truncated) = tt
+outcome_ends (Ok RequestBound) = tt
+outcome_ends (Ok ReadFault) = tt
+outcome_ends (Ok WriteFault) = tt
+outcome_ends (Err e) = tt

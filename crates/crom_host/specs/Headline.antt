@@ -14,7 +14,7 @@ use Rattle.crom_host.specs.declared.status.Status.{Status}
 use Rattle.crom_host.specs.declared.status.Status.TheVariants.{Ended, Usage, Page, Script, NotBuilt, ReadFault, WriteFault, NoMemory, ShelfFault, Truncated, RequestBound}
 use Rattle.crom_host.specs.declared.stream.Ended as stream
 use Rattle.crom_host.specs.declared.stream.Ended.TheVariants as end
-use Rattle.crom_host.specs.Plain.{Loads}
+use Rattle.crom_host.specs.Plain.{default_settings, PlainHost, hosted, Loads}
 use Rattle.crom_host.specs.Loading.{IsScripted}
 use Rattle.crom_host.specs.Stream.{Streamed}
 
@@ -37,10 +37,10 @@ status_of_fault fault.NoMemory = NoMemory
 -- the page was loaded, and its host served the stream
 pub record Served (result : Result stream.Ended AllocError) (page bytes written : List ℕ) (left : Option (List ℕ)) : Type 0 where
   pub start : Heap
-  pub last : Heap
+  pub last : PlainHost
   pub count : ℕ
-  pub loads : Loads page start
-  pub stream : Streamed result (default_limit ServedLimit) start last 0 count bytes written left
+  pub loads : Loads default_settings page start
+  pub stream : Streamed result default_settings (hosted start) last 0 count bytes [] [] written left
 
 -- What was written for the page and the bytes of the input, by the status; `left` is what is left of the input.
 abbrev pub Headline : Status → (page bytes written : List ℕ) → (left : Option (List ℕ)) → Type 0
@@ -57,6 +57,13 @@ Headline Truncated page bytes written left = Served (Ok end.Truncated) page byte
 Headline RequestBound page bytes written left = Served (Ok end.RequestBound) page bytes written left
 Headline ReadFault page bytes written left = Served (Ok end.ReadFault) page bytes written left
 Headline WriteFault page bytes written left = Served (Ok end.WriteFault) page bytes written left
+
+-- the statuses that serving a page ends with
+abbrev pub EndsStdio : Status → Type 0
+EndsStdio Usage = ⊥
+EndsStdio (Page fault.NoMemory) = ⊥
+EndsStdio (Script index fault) = ⊥
+EndsStdio _ = ⊤
 
 -- the run ended with this fault of the page, or before the page was read
 abbrev pub IsRefused : Status → (number at : ℕ) → Type 0
@@ -86,7 +93,7 @@ Causes WriteFault shelf shelf' input input' output output' = (shelf' ≡ shelf) 
 -- a page that is read and has no script, and an input of whole requests within the bound
 pub record IsWhole (page bytes : List ℕ) : Type 0 where
   pub heap : Heap
-  pub loads : Loads page heap
+  pub loads : Loads default_settings page heap
   pub requests : List Message
   pub whole : RequestsOf bytes requests ended
   pub few : length requests ≤ default_limit ServedLimit

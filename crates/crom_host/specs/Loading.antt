@@ -9,7 +9,7 @@ use Rattle.page_reader.specs.declared.page.ScriptText.{ScriptText}
 use Rattle.page_reader.specs.Page.{IsPage, IsPageFault}
 use Rattle.crom_host.specs.declared.host.Loaded.{Loaded}
 use Rattle.crom_host.specs.declared.host.Loaded.TheVariants.{Ready, HasScripts}
-use Rattle.crom_host.specs.Plain.{Loads}
+use Rattle.crom_host.specs.Plain.{default_settings, Loads}
 
 -- the bytes are a page with a script
 pub record IsScripted (page : List ℕ) : Type 0 where
@@ -19,7 +19,7 @@ pub record IsScripted (page : List ℕ) : Type 0 where
   pub some : scripts ≢ []
 
 abbrev pub LoadSays : Result Loaded PageFault → (page : List ℕ) → Type 0
-LoadSays (Ok (Ready base)) page = Loads page (heap_of base) × IsSound 0 (heap_of base)
+LoadSays (Ok (Ready base)) page = Loads default_settings page (heap_of base) × IsSound 0 (heap_of base)
 LoadSays (Ok HasScripts) page = IsScripted page
 LoadSays (Err (Rule number at)) page = IsPageFault page number at
 LoadSays (Err NoMemory) page = ⊤

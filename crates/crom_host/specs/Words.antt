@@ -1,11 +1,12 @@
 -- The words of the command, after the program's name (this project's own).
+use Prim.Native.Char.{code}
 use Rattle.std.specs.Prelude.{◌≡◌, ◌⊎◌, ℕ, List, [], ◌∷◌, Bool, false, cond, ◌&&◌, not, Option, Some, None, nat_eq, codes}
 use Rattle.std.specs.Str.{bytes_eq}
 
 -- `-` stands first
 abbrev pub is_option : List ℕ → Bool
 is_option [] = false
-is_option (b ∷ bs) = nat_eq b 45
+is_option (b ∷ bs) = nat_eq b (code "-")
 
 -- the page's name, where the words are this command and PAGE, which doesn't begin with `-`
 abbrev pub page_word : (command : List ℕ) → List (List ℕ) → Option (List ℕ)

@@ -1,5 +1,5 @@
 //! The host of a loaded page.
-ghost use Rattle.std.specs.Prelude.{◌≡◌, [], ℕ, List, IfOk, true};
+ghost use Rattle.std.specs.Prelude.{◌≡◌, [], ℕ, List, IfOk, OnErr, true};
 ghost use Rattle.cell_places.specs.Kinds.{is_node};
 ghost use Rattle.cell_places.specs.Heap.{kind_at};
 ghost use Rattle.cell_places.specs.Sound.{IsSound};
@@ -9,7 +9,7 @@ ghost use Rattle.page_reader.specs.Page.{IsPage, IsPageFault};
 ghost use Rattle.page_reader.specs.Reading.{OnlyFault};
 ghost use Rattle.wire_replies.specs.ReplyBytes.{IsReply};
 ghost use Rattle.crom_host.specs.Replying as replies;
-ghost use Rattle.crom_host.specs.Plain.{Answered, PlainStep, Serves, ServesId};
+ghost use Rattle.crom_host.specs.Plain.{default_settings, hosted, Answered, PlainStep, Serves, ServesId};
 ghost use Rattle.crom_host.specs.Loading.{LoadSays, OnlyReady};
 
 use cell_heap::Base;
@@ -50,8 +50,8 @@ pub fn load(alloc: Global, page: &[u8]) -> Result<Loaded, PageFault>
     }
 }
 
-/// The reply to what came: to what is asked, or to what is refused. After want of memory the heap
-/// is as it was.
+/// The reply to what came: to what is asked, or to what is refused. Out of memory, the heap is as it
+/// was.
 pub fn answer(
     alloc: Global,
     base: &mut Base,
@@ -59,8 +59,10 @@ pub fn answer(
 ) -> Result<Reply, NoMemory>
     requires sound { IsSound 0 (heap_of base.old) }
     ensures answered { IfOk result (λ reply. (r : replies.Reply)
-        × Answered (heap_of base.old) asked.now [] [] r (heap_of base.new) × replies.IsOf reply r) }
+        × Answered default_settings (hosted (heap_of base.old)) asked.now [] [] r
+        (hosted (heap_of base.new)) × replies.IsOf reply r) }
     ensures valid { IfOk result IsReply }
+    ensures same { OnErr result (heap_of base.new ≡ heap_of base.old) }
     ensures sound { IsSound 0 (heap_of base.new) }
 {
     match asked {
@@ -73,8 +75,10 @@ pub fn answer(
 fn obey(alloc: Global, base: &mut Base, asked: &Asked) -> Result<Reply, NoMemory>
     requires sound { IsSound 0 (heap_of base.old) }
     ensures step { IfOk result (λ reply. (r : replies.Reply)
-        × PlainStep (heap_of base.old) asked.now [] [] r (heap_of base.new) × replies.IsOf reply r) }
+        × PlainStep default_settings (hosted (heap_of base.old)) asked.now [] [] r
+        (hosted (heap_of base.new)) × replies.IsOf reply r) }
     ensures valid { IfOk result IsReply }
+    ensures same { OnErr result (heap_of base.new ≡ heap_of base.old) }
     ensures sound { IsSound 0 (heap_of base.new) }
 {
     match asked {
@@ -92,7 +96,7 @@ fn obey(alloc: Global, base: &mut Base, asked: &Asked) -> Result<Reply, NoMemory
 fn serve_element(alloc: Global, base: &mut Base, id: &Text) -> Result<Reply, NoMemory>
     requires sound { IsSound 0 (heap_of base.old) }
     ensures step { IfOk result (λ reply. (r : replies.Reply)
-        × ServesId (heap_of base.old) id.now r × replies.IsOf reply r) }
+        × ServesId default_settings (heap_of base.old) id.now r × replies.IsOf reply r) }
     ensures valid { IfOk result IsReply }
     ensures same { heap_of base.new ≡ heap_of base.old }
 {
@@ -107,7 +111,7 @@ fn serve(alloc: Global, base: &mut Base, node: CellName) -> Result<Reply, NoMemo
     requires sound { IsSound 0 (heap_of base.old) }
     requires node { is_node (kind_at (heap_of base.old) node) ≡ true }
     ensures serves { IfOk result (λ reply. (r : replies.Reply)
-        × Serves (heap_of base.old) node r × replies.IsOf reply r) }
+        × Serves default_settings (heap_of base.old) node r × replies.IsOf reply r) }
     ensures valid { IfOk result IsReply }
     ensures same { heap_of base.new ≡ heap_of base.old }
 {

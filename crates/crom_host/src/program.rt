@@ -5,7 +5,7 @@ ghost use Rattle.page_units.specs.Outside.{Rose};
 ghost use Rattle.page_reader.specs.Page.{IsPageFault};
 ghost use Rattle.js_parser.specs.declared.fault.ScriptFault.{ScriptFault};
 ghost use Rattle.crom_host.specs.Words.{stdio_word, check_word, IsUsage, Names};
-ghost use Rattle.crom_host.specs.Headline.{Headline, Causes, IsRefused, IsWhole};
+ghost use Rattle.crom_host.specs.Headline.{Headline, EndsStdio, Causes, IsRefused, IsWhole};
 ghost use Rattle.crom_host.specs.Checking.{IsChecked, IsScriptFault, Checked, IsScriptRefused, EndsCheck};
 
 use crate::check::check;
@@ -34,8 +34,11 @@ pub fn run<F: Shelf, S: Source, W: Sink>(
     ensures checked { (name page old : List ℕ) → check_word (map string_bytes words.now.items) ≡ Some name
         → F.file shelf.old name ≡ Some page → W.told output.old ≡ Some old
         → (written : List ℕ) × (W.told output.new ≡ Some (old ++ written)) × Checked result (take FETCHED_BYTES page) written }
-    // Checking ends with no status of serving, so it never is not built.
-    ensures ends { (name : List ℕ) → check_word (map string_bytes words.now.items) ≡ Some name → EndsCheck result }
+    // Serving ends with no status of checking, and checking with none of serving.
+    ensures ends { (name : List ℕ) → stdio_word (map string_bytes words.now.items) ≡ Some name
+        → EndsStdio result }
+    ensures ends_check { (name : List ℕ) → check_word (map string_bytes words.now.items) ≡ Some name
+        → EndsCheck result }
     // Checking reads nothing of the input.
     ensures unread { (name : List ℕ) → check_word (map string_bytes words.now.items) ≡ Some name → input.new ≡ input.old }
     // A page that breaks a rule is refused with it.

@@ -2,7 +2,7 @@
 ghost use Rattle.std.specs.Prelude.{◌≡◌, ◌⊎◌, ℕ, ◌++◌, List, take, Option, Some};
 ghost use Rattle.page_units.specs.Outside.{Rose};
 ghost use Rattle.page_reader.specs.Page.{IsPageFault};
-ghost use Rattle.crom_host.specs.Headline.{Headline, Causes, IsRefused, IsWhole};
+ghost use Rattle.crom_host.specs.Headline.{Headline, EndsStdio, Causes, IsRefused, IsWhole};
 ghost use Rattle.crom_host.specs.Headline as spec;
 
 use crate::host::{Loaded, load};
@@ -22,6 +22,7 @@ pub fn stdio<F: Shelf, S: Source, W: Sink>(
     output: &mut W,
 ) -> Status
     ensures usage { result ≡ Status.Usage → ⊥ }
+    ensures ends { EndsStdio result }
     ensures causes { Causes result (F.faults shelf.old) (F.faults shelf.new) (S.faults input.old) (S.faults input.new) (W.faults output.old) (W.faults output.new) }
     ensures headline { (page bytes old : List ℕ) → F.file shelf.old name.now ≡ Some page → S.left input.old ≡ Some bytes → W.told output.old ≡ Some old
         → (written : List ℕ) × (W.told output.new ≡ Some (old ++ written)) × Headline result (take FETCHED_BYTES page) bytes written (S.left input.new) }
@@ -43,14 +44,7 @@ pub fn stdio<F: Shelf, S: Source, W: Sink>(
         Err(fault) => return status_of_fault(fault),
     };
     let mut served = 0;
-    status_of(serve_stream(
-        alloc,
-        &mut base,
-        &mut served,
-        Limit::Served.default_number(),
-        input,
-        output,
-    ))
+    status_of(serve_stream(alloc, &mut base, &mut served, input, output))
 }
 
 /// The status of a run whose page wasn't read.

@@ -1,16 +1,20 @@
 //! A stream of requests, each answered.
-ghost use Rattle.std.specs.Prelude.{◌≡◌, ◌≤◌, ◌+◌, ℕ, ◌++◌, List, Some, length};
+ghost use Rattle.std.specs.Prelude.{◌≡◌, ◌≤◌, ◌+◌, ℕ, ◌++◌, List, [], Some, length};
 ghost use Rattle.cell_places.specs.Sound.{IsSound};
 ghost use Rattle.cell_heap.specs.Base.{heap_of};
 ghost use Rattle.http_wire.specs.Messages.{Message};
 ghost use Rattle.http_wire.specs.Requests as requests;
+ghost use Rattle.page_units.specs.declared.limits.Limit.TheVariants.{Served};
+ghost use Rattle.page_units.specs.Limits.{default_limit};
+ghost use Rattle.crom_host.specs.Plain.{default_settings, hosted, Answers, Sent, PlainHost, PlainRun};
+ghost use Rattle.crom_host.specs.Plain.{Ending, IsEnd, OneRun};
 ghost use Rattle.crom_host.specs.Plain as plain;
 ghost use Rattle.crom_host.specs.Stream.{Streamed, StreamCauses, IsWholeEnd};
 
 use crate::host::answer;
 use cell_heap::Base;
 use http_wire::{Incoming, Next, Wire};
-use page_units::{NoMemory, Sink, Source, Wrote};
+use page_units::{Limit, NoMemory, Sink, Source, Wrote};
 use std::alloc::Global;
 use wire_asks::{Asked, Refusal};
 use wire_replies::write_reply;
@@ -35,26 +39,38 @@ pub enum Ended {
 }
 
 /// Answers each request of the source in turn, before the source is asked again, until the stream
-/// ends, a reply closes it or `most` requests were answered; `served` counts them, the one whose
-/// reply couldn't be written whole with them.
+/// ends, a reply closes it or as many requests were answered as may be; `served` counts them, the one whose
+/// reply couldn't be written whole with them. After any end, and out of memory, it can be called
+/// again, with another stream.
+#[tactic(auto, using(crate::proofs::OneRun::one_run))]
 pub fn serve_stream<S: Source, W: Sink>(
     alloc: Global,
     base: &mut Base,
     served: &mut u64,
-    most: u64,
     source: &mut S,
     sink: &mut W,
 ) -> Result<Ended, NoMemory>
     requires sound { IsSound 0 (heap_of base.old) }
-    requires bound { served.old ≤ most }
+    requires bound { served.old ≤ default_limit Served }
     ensures causes { StreamCauses result (S.faults source.old) (S.faults source.new) (W.faults sink.old) (W.faults sink.new) }
     ensures stream { (bytes old : List ℕ) → S.left source.old ≡ Some bytes → W.told sink.old ≡ Some old →
         (written : List ℕ) × (W.told sink.new ≡ Some (old ++ written))
-        × Streamed result most (heap_of base.old) (heap_of base.new) served.old served.new bytes written (S.left source.new) }
+        × Streamed result default_settings (hosted (heap_of base.old)) (hosted (heap_of base.new))
+        served.old served.new bytes [] [] written (S.left source.new) }
     // Whole requests within the bound are answered, up to one that closes.
     ensures whole { (bytes : List ℕ) (all : List Message) → S.left source.old ≡ Some bytes → requests.RequestsOf bytes all requests.ended
-        → served.old + length all ≤ most → IsWholeEnd result }
+        → served.old + length all ≤ default_limit Served → IsWholeEnd result }
+    // A stream has one run to its end on the plain host, but for the open choice.
+    ensures one { (bytes : List ℕ) (gets posts : Answers) (sent others : List Sent)
+        (h k : PlainHost) (m l : ℕ) (e f : Ending)
+        → PlainRun default_settings (hosted (heap_of base.old)) served.old bytes gets posts sent h m e
+        → PlainRun default_settings (hosted (heap_of base.old)) served.old bytes gets posts others k l f
+        → IsEnd e → IsEnd f → OneRun bytes sent others h k m l e f }
+    // So the call may be made again, however it ended.
+    ensures sound { IsSound 0 (heap_of base.new) }
+    ensures bound { served.new ≤ default_limit Served }
 {
+    let most = Limit::Served.default_number();
     let mut wire = Wire::new(alloc)?;
     loop {
         match wire.next(source)? {

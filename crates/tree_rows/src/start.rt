@@ -11,96 +11,25 @@ use row_files::field;
 use std::alloc::{AllocError, Global};
 
 /// Each name that a property or a binding of the start has, in the order of their letters.
-const NAMES: [&str; 88] = [
-    "Array",
-    "Boolean",
-    "Error",
-    "JSON",
-    "Math",
-    "Number",
-    "Object",
-    "RangeError",
-    "ReferenceError",
-    "String",
-    "SyntaxError",
-    "TypeError",
-    "abs",
-    "addEventListener",
-    "appendChild",
-    "apply",
-    "call",
-    "charAt",
-    "charCodeAt",
-    "clearTimeout",
-    "clock",
-    "concat",
-    "console",
-    "constructor",
-    "create",
-    "createElement",
-    "createTextNode",
-    "crom",
-    "document",
-    "every",
-    "filter",
-    "floor",
-    "forEach",
-    "forget",
-    "fromCharCode",
-    "get",
-    "getAttribute",
-    "getElementById",
-    "getPrototypeOf",
-    "guess",
-    "hasAttribute",
-    "hasOwnProperty",
-    "indexOf",
-    "insertBefore",
-    "isArray",
-    "isPrototypeOf",
-    "join",
-    "keys",
-    "lastIndexOf",
-    "log",
-    "map",
-    "max",
-    "message",
-    "min",
-    "name",
-    "net",
-    "parse",
-    "parseInt",
-    "pop",
-    "post",
-    "pow",
-    "preventDefault",
-    "prototype",
-    "push",
-    "reduce",
-    "removeAttribute",
-    "removeChild",
-    "removeEventListener",
-    "replace",
-    "reverse",
-    "setAttribute",
-    "setTimeout",
-    "shift",
-    "slice",
-    "some",
-    "splice",
-    "split",
-    "stopImmediatePropagation",
-    "stopPropagation",
-    "stringify",
-    "substring",
-    "toLowerCase",
-    "toString",
-    "toUpperCase",
-    "trim",
-    "undefined",
-    "unshift",
-    "valueOf",
-];
+const NAMES: &str =
+    "Array Boolean Error JSON Math Number Object RangeError ReferenceError String SyntaxError \
+    TypeError abs addEventListener appendChild apply call charAt charCodeAt clearTimeout \
+    clock concat console constructor create createElement createTextNode crom document every \
+    filter floor forEach forget fromCharCode get getAttribute getElementById getPrototypeOf \
+    guess hasAttribute hasOwnProperty indexOf insertBefore isArray isPrototypeOf join keys \
+    lastIndexOf log map max message min name net parse parseInt pop post pow preventDefault \
+    prototype push reduce removeAttribute removeChild removeEventListener replace reverse \
+    setAttribute setTimeout shift slice some splice split stopImmediatePropagation \
+    stopPropagation stringify substring toLowerCase toString toUpperCase trim undefined \
+    unshift valueOf";
+
+/// Names of ECMA-262 5.1, of WHATWG DOM and of HTML at which nothing stands.
+const OTHER_NAMES: &str =
+    "Date EvalError Function Infinity NaN PI RegExp URIError bind callee caller className \
+    data defineProperty documentElement eval exec firstChild global id isFinite isNaN \
+    lastChild length localeCompare match nextSibling nodeType now parentNode parseFloat \
+    previousSibling propertyIsEnumerable random reduceRight round search self sort sqrt \
+    tagName textContent toFixed toLocaleString type value window";
 
 /// A cell of the start: its kind, and each of its slots at which something stands, the properties
 /// and bindings in the order of their names.
@@ -113,30 +42,25 @@ pub fn cell(alloc: Global, fields: &[String]) -> Result<String, AllocError> {
     let mut out = kind_spelled(alloc, base.kind_of(cell))?;
     push_links(&mut out, &mut base, cell)?;
     push_page(&mut out, &mut base, cell)?;
-    for name in NAMES {
-        push_slot(
-            &mut out,
-            &mut base,
-            cell,
-            Slot::Own(text_of(alloc, name)?),
-            name,
-        )?;
-        push_slot(
-            &mut out,
-            &mut base,
-            cell,
-            Slot::Bind(text_of(alloc, name)?),
-            name,
-        )?;
-        push_slot(
-            &mut out,
-            &mut base,
-            cell,
-            Slot::Attr(text_of(alloc, name)?),
-            name,
-        )?;
-    }
+    push_names(&mut out, &mut base, alloc, cell, NAMES)?;
+    push_names(&mut out, &mut base, alloc, cell, OTHER_NAMES)?;
     Ok(out)
+}
+
+/// Appends what stands at the slots of a cell that bear one of these names.
+fn push_names(
+    out: &mut String,
+    base: &mut Base,
+    alloc: Global,
+    cell: CellName,
+    names: &str,
+) -> Result<(), AllocError> {
+    for name in names.split(" ") {
+        push_slot(out, base, cell, Slot::Own(text_of(alloc, name)?), name)?;
+        push_slot(out, base, cell, Slot::Bind(text_of(alloc, name)?), name)?;
+        push_slot(out, base, cell, Slot::Attr(text_of(alloc, name)?), name)?;
+    }
+    Ok(())
 }
 
 /// Appends what stands at the slots of objects, lists, nodes and events that bear no name.

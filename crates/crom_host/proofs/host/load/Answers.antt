@@ -1,8 +1,7 @@
-use Rattle.std.proofs.Common.{◌≡◌, ◌∙◌, ℕ, [], ap, arith}
+use Rattle.std.proofs.Common.{◌≡◌, ◌∙◌, ℕ, pos, [], ap, arith}
 use Rattle.std.proofs.lemmas.Grind.{common_steps}
 use Rattle.cell_places.specs.Heap.{Heap, children_at}
 use Rattle.cell_places.specs.Start.{start, document_cell}
-use Rattle.crom_host.specs.Plain.{start_moment}
 use Rattle.crom_host.proofs.Hosting.{loaded, no_fault, no_scripts}
 use Rattle.crom_host.proofs.host.load.Goals as goal
 
@@ -18,7 +17,7 @@ returns-in-Err-clause-only c trees page = no_fault c.in-Err.fault (c.in-Err.ensu
 pub returns-then-is_empty-clause-says : goal.returns-then-is_empty-clause-says
 returns-then-is_empty-clause-says c =
     let none : c.in-Ok.parts.scripts.items ≡ [] = grind (arith, common_steps, c.is_empty.ensures, c.if-is_empty.true) in
-    let begins = c.in_ok-base.ensures.start ∙ ap (λ (weight : ℕ). start weight start_moment) c.default_number.ensures in
+    let begins = c.in_ok-base.ensures.start ∙ ap (λ (weight : ℕ). start weight (pos 0)) c.default_number.ensures in
     (loaded _ _ _ _ c.in-Ok.ensures.page none begins, c.in-Ok.ensures.sound 0 (c.in_ok-base.ensures.sound 0))
 
 pub returns-else-is_empty-clause-only : goal.returns-else-is_empty-clause-only

@@ -9,7 +9,7 @@ use Rattle.dom_tree.specs.Ids.{Finds}
 use Rattle.wire_asks.specs.declared.asked.Refusal.TheVariants.{NoTarget}
 use Rattle.crom_host.specs.Replying.{refused}
 use Rattle.crom_host.specs.Plain as p
-use Rattle.crom_host.specs.Plain.{Serves}
+use Rattle.crom_host.specs.Plain.{default_settings, Serves}
 use Rattle.crom_host.proofs.host.serve_element.Goals as goal
 
 pub returns-in-Some-clause-step : goal.returns-in-Some-clause-step
@@ -21,7 +21,7 @@ returns-in-Some-clause-step c =
     let visited = c.in_ok-element.field-0.visited in
     let found = subst (λ (z : Option CellName). Finds H c.args.id.now z visited finds.0) c.in-Some.is finds.1 in
     IfOk-weaker c.serve.result _ _
-    (λ reply s. (s.0, p.found c.in-Some.element visited finds.0 s.0 found (subst (λ (K : Heap). Serves K c.in-Some.element s.0) same s.1), s.2))
+    (λ reply s. (s.0, p.found c.in-Some.element visited finds.0 s.0 found (subst (λ (K : Heap). Serves default_settings K c.in-Some.element s.0) same s.1), s.2))
     c.serve.ensures.serves
 
 pub returns-in-None-clause-step : goal.returns-in-None-clause-step

@@ -14,8 +14,8 @@ returns-in-Some-clause-headline g c name page bytes old w f l o =
 pub returns-in-Some-clause-checked : goal.returns-in-Some-clause-checked
 returns-in-Some-clause-checked g c name page old w f o = absurd (one_command (map (string_bytes {Z = Global}) c.args.words.now.items) c.in-Some.name.now name (sym c.in-Some.ensures) w)
 
-pub returns-in-Some-clause-ends : goal.returns-in-Some-clause-ends
-returns-in-Some-clause-ends g c name w = absurd (one_command (map (string_bytes {Z = Global}) c.args.words.now.items) c.in-Some.name.now name (sym c.in-Some.ensures) w)
+pub returns-in-Some-clause-ends_check : goal.returns-in-Some-clause-ends_check
+returns-in-Some-clause-ends_check g c name w = absurd (one_command (map (string_bytes {Z = Global}) c.args.words.now.items) c.in-Some.name.now name (sym c.in-Some.ensures) w)
 
 pub returns-in-Some-clause-unread : goal.returns-in-Some-clause-unread
 returns-in-Some-clause-unread g c name w = absurd (one_command (map (string_bytes {Z = Global}) c.args.words.now.items) c.in-Some.name.now name (sym c.in-Some.ensures) w)

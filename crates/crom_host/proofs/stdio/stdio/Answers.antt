@@ -1,10 +1,12 @@
 use Rattle.std.proofs.Common.{◌≡◌, ◌+◌, ◌≤◌, ℕ, length, List, [], take, refl, ap, sym, ◌∙◌, subst, Some, Err, arith}
 use Rattle.std.proofs.lemmas.List.{append-nil}
+use Rattle.page_units.specs.declared.limits.Limit.TheVariants.{Served}
+use Rattle.page_units.specs.Limits.{default_limit}
 use Rattle.page_reader.specs.Page.{IsPage, IsPageFault}
 use Rattle.cell_heap.specs.Base.{heap_of}
 use Rattle.crom_host.specs.Loading.{IsScripted, LoadSays}
-use Rattle.crom_host.specs.Plain.{Loads}
-use Rattle.crom_host.proofs.Serving.{headline_of, fault_headline, fault_refused, fault_complete}
+use Rattle.crom_host.specs.Plain.{default_settings, Loads}
+use Rattle.crom_host.proofs.Serving.{headline_of, fault_headline, fault_refused, fault_complete, fault_ends, outcome_ends}
 use Rattle.crom_host.proofs.Complete.{complete_of}
 use Rattle.crom_host.proofs.stdio.stdio.Goals as goal
 
@@ -39,6 +41,9 @@ returns-in-Err-load-clause-headline g c = λ page bytes old f l o.
     let says = subst (LoadSays (Err c.in-Err-load.fault)) text c.in-Err-load.ensures.says in
     rw c.status_of_fault.ensures ([], o ∙ ap Some (sym (append-nil old)), fault_headline c.in-Err-load.fault (take 1048577 page) bytes _ says)
 
+pub returns-in-Err-load-clause-ends : goal.returns-in-Err-load-clause-ends
+returns-in-Err-load-clause-ends g c = rw c.status_of_fault.ensures (fault_ends c.in-Err-load.fault)
+
 pub returns-in-Err-load-clause-refused : goal.returns-in-Err-load-clause-refused
 returns-in-Err-load-clause-refused g c = λ page f number at fault.
     let got = rw c.in-Ok-Bytes.field-0-is at c.in-Ok-Bytes.ensures.bytes in
@@ -58,10 +63,12 @@ returns-clause-headline g c = λ page bytes old f l o.
     let got = rw c.in-Ok-Bytes.field-0-is at c.in-Ok-Bytes.ensures.bytes in
     let text : c.as_slice.result.now ≡ take 1048577 page = c.as_slice.ensures.value ∙ got page f in
     let says = rw c.in-Ok-Ready.field-0-is at c.in-Ok-Ready.ensures.says in
-    let loads : Loads (take 1048577 page) (heap_of c.in-Ok-Ready.base) = subst (λ (z : List ℕ). Loads z (heap_of c.in-Ok-Ready.base)) text says.0 in
+    let loads : Loads default_settings (take 1048577 page) (heap_of c.in-Ok-Ready.base) = subst (λ (z : List ℕ). Loads default_settings z (heap_of c.in-Ok-Ready.base)) text says.0 in
     let s = c.serve_stream.ensures.stream bytes old l o in
-    let stream = rw c.default_number.ensures at s.2 in
-    rw c.status_of.ensures (s.0, s.1, headline_of c.serve_stream.result _ bytes s.0 _ (record { start = _; last = _; count = _; loads = loads; stream = stream }))
+    rw c.status_of.ensures (s.0, s.1, headline_of c.serve_stream.result _ bytes s.0 _ (record { start = _; last = _; count = _; loads = loads; stream = s.2 }))
+
+pub returns-clause-ends : goal.returns-clause-ends
+returns-clause-ends g c = rw c.status_of.ensures (outcome_ends c.serve_stream.result)
 
 pub returns-clause-refused : goal.returns-clause-refused
 returns-clause-refused g c = λ page f number at fault.
@@ -73,6 +80,6 @@ pub returns-clause-complete : goal.returns-clause-complete
 returns-clause-complete g c = λ page bytes old f l o whole calm_shelf calm_input calm_output.
     let got = rw c.in-Ok-Bytes.field-0-is at c.in-Ok-Bytes.ensures.bytes in
     let text : c.as_slice.result.now ≡ take 1048577 page = c.as_slice.ensures.value ∙ got page f in
-    let most : 0 + length whole.requests ≤ c.default_number.result = omega (arith, whole.few) in
-    let ended = c.serve_stream.ensures.whole bytes whole.requests l whole.whole most in
+    let few : 0 + length whole.requests ≤ default_limit Served = omega (arith, whole.few) in
+    let ended = c.serve_stream.ensures.whole bytes whole.requests l whole.whole few in
     rw c.status_of.ensures (complete_of c.serve_stream.result _ _ _ _ ended c.serve_stream.ensures.causes calm_input calm_output)

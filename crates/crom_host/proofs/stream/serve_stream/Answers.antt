@@ -1,10 +1,12 @@
-use Rattle.std.proofs.Common.{◌≡◌, ◌≤◌, ◌+◌, ℕ, true, false, List, take, refl, sym, ap, ◌∙◌, arith}
+use Rattle.std.proofs.Common.{◌≡◌, ◌<◌, ◌≤◌, ◌+◌, ℕ, true, false, List, take, refl, sym, subst, ap, ◌∙◌, arith}
 use Rattle.std.proofs.lemmas.Result.{err_from_is_err_and}
 use Rattle.page_units.specs.Outside.{before, after}
+use Rattle.page_units.specs.declared.limits.Limit.TheVariants.{Served}
+use Rattle.page_units.specs.Limits.{default_limit}
 use Rattle.cell_places.specs.Sound.{IsSound}
 use Rattle.cell_heap.specs.Base.{heap_of}
 use Rattle.crom_host.specs.Replying.{bytes_of}
-use Rattle.crom_host.specs.Plain.{ends_behind, is_halt, ending_of, closed, halted_so}
+use Rattle.crom_host.specs.Plain.{default_settings, hosted, ends_behind, is_halt, ending_of, closed, halted_so}
 use Rattle.crom_host.proofs.Fronts.{Progress, Wholes, started, whole_started, went_on, whole_on, ended_so, truncated_so, bound_so, read_fault_so, gives_up, never_began, stops_writing, gives_up_writing, closes_so, reply_bytes_of, halt_ends}
 use Rattle.crom_host.proofs.stream.serve_stream.Given as given
 use Rattle.crom_host.proofs.stream.serve_stream.Goals as goal
@@ -33,7 +35,7 @@ returns-in_err-incoming-clause-stream g c =
 pub returns-then-served-most-clause-stream : goal.returns-then-served-most-clause-stream
 returns-then-served-most-clause-stream g c =
     let comes = rw c.in-Request.is at c.in_ok-incoming.ensures.stream in
-    bound_so _ _ _ _ _ _ _ _ _ _ _ c.loop-wire.invariant.progress comes (omega arith)
+    bound_so _ _ _ _ _ _ _ _ _ _ _ c.loop-wire.invariant.progress comes (omega (arith, c.default_number-most.ensures, c.if-served-most.true, c.loop-wire.invariant.bound))
 
 pub returns-in_err-reply-in-Request-clause-stream : goal.returns-in_err-reply-in-Request-clause-stream
 returns-in_err-reply-in-Request-clause-stream g c =
@@ -54,7 +56,7 @@ returns-in_err-write_reply-in-Request-clause-stream g c =
     let front = c.write_reply.ensures.front in
     let went : g.W.Sink.told c.write_reply.new.sink ≡ after (g.W.Sink.told c.loop-wire.sink) (take front.0 (bytes_of answered.0 (ends_behind c.in-Request.incoming))) =
     front.1 ∙ ap (λ (z : List ℕ). after (g.W.Sink.told c.loop-wire.sink) (take front.0 z)) (reply_bytes_of _ _ _ _ answered.2 c.ends_behind-close.ensures) in
-    rw p.1 (gives_up_writing _ _ _ _ _ _ front.0 _ _ _ _ _ _ _ answered.0 c.loop-wire.invariant.progress c.if-served-most.false comes answered.1 went)
+    rw p.1 (gives_up_writing _ _ _ _ _ _ front.0 _ _ _ _ _ _ _ answered.0 c.loop-wire.invariant.progress (subst (λ (k : ℕ). c.loop-wire.served < k) c.default_number-most.ensures c.if-served-most.false) comes answered.1 went)
 
 pub returns-in-Failed-2-clause-stream : goal.returns-in-Failed-2-clause-stream
 returns-in-Failed-2-clause-stream g c =
@@ -63,7 +65,7 @@ returns-in-Failed-2-clause-stream g c =
     let front = c.write_reply.ensures.front in
     let went : g.W.Sink.told c.write_reply.new.sink ≡ after (g.W.Sink.told c.loop-wire.sink) (take front.0 (bytes_of answered.0 (ends_behind c.in-Request.incoming))) =
     front.1 ∙ ap (λ (z : List ℕ). after (g.W.Sink.told c.loop-wire.sink) (take front.0 z)) (reply_bytes_of _ _ _ _ answered.2 c.ends_behind-close.ensures) in
-    stops_writing _ _ _ _ _ _ front.0 _ _ _ _ _ _ _ answered.0 c.loop-wire.invariant.progress c.if-served-most.false comes answered.1 went
+    stops_writing _ _ _ _ _ _ front.0 _ _ _ _ _ _ _ answered.0 c.loop-wire.invariant.progress (subst (λ (k : ℕ). c.loop-wire.served < k) c.default_number-most.ensures c.if-served-most.false) comes answered.1 went
 
 pub returns-then-halts-clause-stream : goal.returns-then-halts-clause-stream
 returns-then-halts-clause-stream g c =
@@ -74,7 +76,7 @@ returns-then-halts-clause-stream g c =
     let ends : ends_behind c.in-Request.incoming ≡ true = halt_ends c.in-Request.incoming halt in
     let went : g.W.Sink.told c.write_reply.new.sink ≡ after (g.W.Sink.told c.loop-wire.sink) (bytes_of answered.0 true) =
     all ∙ ap (after (g.W.Sink.told c.loop-wire.sink)) (reply_bytes_of _ _ _ _ answered.2 (c.ends_behind-close.ensures ∙ ends)) in
-    closes_so _ _ _ _ _ _ _ _ _ _ _ _ _ answered.0 halted_so c.loop-wire.invariant.progress c.if-served-most.false comes answered.1 ends (ap ending_of halt) went
+    closes_so _ _ _ _ _ _ _ _ _ _ _ _ _ answered.0 halted_so c.loop-wire.invariant.progress (subst (λ (k : ℕ). c.loop-wire.served < k) c.default_number-most.ensures c.if-served-most.false) comes answered.1 ends (ap ending_of halt) went
 
 pub returns-then-close-clause-stream : goal.returns-then-close-clause-stream
 returns-then-close-clause-stream g c =
@@ -85,17 +87,17 @@ returns-then-close-clause-stream g c =
     let ends : ends_behind c.in-Request.incoming ≡ true = sym c.ends_behind-close.ensures ∙ c.if-close.true in
     let went : g.W.Sink.told c.write_reply.new.sink ≡ after (g.W.Sink.told c.loop-wire.sink) (bytes_of answered.0 true) =
     all ∙ ap (after (g.W.Sink.told c.loop-wire.sink)) (reply_bytes_of _ _ _ _ answered.2 (c.ends_behind-close.ensures ∙ ends)) in
-    closes_so _ _ _ _ _ _ _ _ _ _ _ _ _ answered.0 closed c.loop-wire.invariant.progress c.if-served-most.false comes answered.1 ends (ap ending_of halt) went
+    closes_so _ _ _ _ _ _ _ _ _ _ _ _ _ answered.0 closed c.loop-wire.invariant.progress (subst (λ (k : ℕ). c.loop-wire.served < k) c.default_number-most.ensures c.if-served-most.false) comes answered.1 ends (ap ending_of halt) went
 
 -- the requests so far are answered, the one that came with them
 went_round : (g : given.Over) (c : Else-close g) → record {
-  progress : Progress c.args.most (heap_of c.args.base.now) (heap_of c.answer.new.base) c.args.served.now (c.loop-wire.served + 1) (g.S.Source.left c.args.source.now)
+  progress : Progress default_settings (hosted (heap_of c.args.base.now)) (hosted (heap_of c.answer.new.base)) c.args.served.now (c.loop-wire.served + 1) (g.S.Source.left c.args.source.now)
       (before c.next.new.self.frames.held.items (g.S.Source.left c.next.new.source)) (g.W.Sink.told c.args.sink.now) (g.W.Sink.told c.write_reply.new.sink);
-  whole : Wholes c.args.most c.args.served.now (c.loop-wire.served + 1) (g.S.Source.left c.args.source.now) (before c.next.new.self.frames.held.items (g.S.Source.left c.next.new.source));
+  whole : Wholes (default_limit Served) c.args.served.now (c.loop-wire.served + 1) (g.S.Source.left c.args.source.now) (before c.next.new.self.frames.held.items (g.S.Source.left c.next.new.source));
   sound : IsSound 0 (heap_of c.answer.new.base);
   source : g.S.Source.faults c.next.new.source ≡ g.S.Source.faults c.args.source.now;
   sink : g.W.Sink.faults c.write_reply.new.sink ≡ g.W.Sink.faults c.args.sink.now;
-  bound : c.loop-wire.served + 1 ≤ c.args.most;
+  bound : c.loop-wire.served + 1 ≤ default_limit Served;
 }
 went_round g c =
     let comes = rw c.in-Request.is at c.in_ok-incoming.ensures.stream in
@@ -108,12 +110,12 @@ went_round g c =
     let cause = rw c.in-Request.is at c.in_ok-incoming.ensures.cause in
     let count = rw c.in-All.is at c.in_ok-write_reply-in-Request.ensures.count in
     record {
-      progress = went_on _ _ _ _ _ _ _ _ _ _ _ _ _ answered.0 c.loop-wire.invariant.progress c.if-served-most.false comes answered.1 ends went;
+      progress = went_on _ _ _ _ _ _ _ _ _ _ _ _ _ answered.0 c.loop-wire.invariant.progress (subst (λ (k : ℕ). c.loop-wire.served < k) c.default_number-most.ensures c.if-served-most.false) comes answered.1 ends went;
       whole = whole_on _ _ _ _ _ _ _ c.loop-wire.invariant.whole wholes;
       sound = c.answer.ensures.sound;
       source = cause ∙ c.loop-wire.invariant.source;
       sink = count ∙ c.loop-wire.invariant.sink;
-      bound = omega arith;
+      bound = omega (arith, c.default_number-most.ensures, c.if-served-most.false);
     }
 
 pub loop-wire-preserved-else-close : goal.loop-wire-preserved-else-close
