@@ -3,13 +3,14 @@ use Rattle.std.proofs.Common.{◌≡◌, ◌⊎◌, ℕ, List, [], ◌++◌, tak
 use Rattle.page_reader.specs.declared.fault.PageFault.TheVariants as page
 use Rattle.page_units.specs.Outside.{Rose}
 use Rattle.js_parser.specs.declared.fault.ScriptFault.{ScriptFault}
-use Rattle.crom_host.specs.declared.fault.LoadFault.{LoadFault}
-use Rattle.crom_host.specs.declared.fault.LoadFault.TheVariants as load
+use Rattle.page_loading.specs.declared.fault.LoadFault.{LoadFault}
+use Rattle.page_loading.specs.declared.fault.LoadFault.TheVariants as load
 use Rattle.crom_host.specs.declared.status.Status.{Status}
 use Rattle.crom_host.specs.declared.status.Status.TheVariants as s
 use Rattle.crom_host.specs.Faults.{status_of}
-use Rattle.crom_host.specs.Headline.{Causes, Calm, IsRefused}
-use Rattle.crom_host.specs.Checking.{IsChecked, CountSays, OnlyCount, OnlyRule, OnlyScript, count_line, Writes, Checked, IsScriptRefused, EndsCheck}
+use Rattle.crom_host.specs.Headline.{counts, Causes, IsRefused, IsScriptRefused}
+use Rattle.page_loading.specs.Loading.{OnlyRule, OnlyScript}
+use Rattle.crom_host.specs.Checking.{IsChecked, CountSays, OnlyCount, count_line, Writes, Checked, EndsCheck}
 
 -- ---- the page or a script is none
 
@@ -19,28 +20,22 @@ fault_checked (load.Page page.NoMemory) bytes says = absurd says
 fault_checked (load.Script index given) bytes says = (says, refl)
 fault_checked load.NoMemory bytes says = inl refl
 
-pub fault_rule : (fault : LoadFault) (number at : ℕ) → OnlyRule (Err fault) number at → IsRefused (status_of fault) number at
-fault_rule (load.Page (page.Rule n a)) number at same = same
-fault_rule (load.Page page.NoMemory) number at same = absurd same
-fault_rule (load.Script index given) number at same = absurd same
-fault_rule load.NoMemory number at same = tt
+pub fault_rule : (A : Type 0) (fault : LoadFault) (number at : ℕ) → OnlyRule {A = A} (Err fault) number at → IsRefused (status_of fault) number at
+fault_rule A (load.Page (page.Rule n a)) number at same = same
+fault_rule A (load.Page page.NoMemory) number at same = absurd same
+fault_rule A (load.Script index given) number at same = absurd same
+fault_rule A load.NoMemory number at same = tt
 
-pub fault_script : (fault : LoadFault) (index : ℕ) (given : ScriptFault) → OnlyScript (Err fault) index given → IsScriptRefused (status_of fault) index given
-fault_script (load.Page (page.Rule n a)) index given same = absurd same
-fault_script (load.Page page.NoMemory) index given same = absurd same
-fault_script (load.Script i g) index given same = same
-fault_script load.NoMemory index given same = tt
+pub fault_script : (A : Type 0) (fault : LoadFault) (index : ℕ) (given : ScriptFault) → OnlyScript {A = A} (Err fault) index given → IsScriptRefused (status_of fault) index given
+fault_script A (load.Page (page.Rule n a)) index given same = absurd same
+fault_script A (load.Page page.NoMemory) index given same = absurd same
+fault_script A (load.Script i g) index given same = same
+fault_script A load.NoMemory index given same = tt
 
 pub fault_complete : (fault : LoadFault) (count : ℕ) → OnlyCount (Err fault) count → (status_of fault ≡ s.Ended) ⊎ (status_of fault ≡ s.NoMemory)
 fault_complete (load.Page given) count none = absurd none
 fault_complete (load.Script i g) count none = absurd none
 fault_complete load.NoMemory count none = inr refl
-
-pub fault_causes : (fault : LoadFault) (shelf shelf' input input' output output' : ℕ) → Calm shelf shelf' input input' output output' → Causes (status_of fault) shelf shelf' input input' output output'
-fault_causes (load.Page (page.Rule n a)) _ _ _ _ _ _ calm = calm
-fault_causes (load.Page page.NoMemory) _ _ _ _ _ _ calm = calm
-fault_causes (load.Script i g) _ _ _ _ _ _ calm = calm
-fault_causes load.NoMemory _ _ _ _ _ _ calm = calm
 
 pub fault_no_usage : (fault : LoadFault) → status_of fault ≡ s.Usage → ⊥
 fault_no_usage (load.Page (page.Rule n a)) e = absurd cc
@@ -71,7 +66,7 @@ line_checked s.RequestBound bytes count old told _ _ checked w = absurd w
 line_checked s.NotBuilt bytes count old told _ _ checked w = absurd w
 
 module _ (line : List ℕ) (told told' : Option (List ℕ)) (faults faults' : ℕ) where
-  pub line_causes : (status : Status) (shelf shelf' input : ℕ) → shelf' ≡ shelf → Writes status line told told' faults faults' → Causes status shelf shelf' input input faults faults'
+  pub line_causes : (status : Status) (shelf shelf' input : ℕ) → shelf' ≡ shelf → Writes status line told told' faults faults' → Causes status (counts shelf input faults) (counts shelf' input faults')
   line_causes s.Ended shelf shelf' input same w = (same, refl, w.1)
   line_causes s.WriteFault shelf shelf' input same w = (same, refl, w.1)
   line_causes s.NoMemory shelf shelf' input same w = (same, refl, w.1)

@@ -1,76 +1,60 @@
 -- From the programs of a page's scripts to how many it has.
-use Rattle.std.proofs.Common.{◌≡◌, ◌∙◌, ℕ, suc, List, [], ◌∷◌, length, refl, sym, ap, subst}
+use Rattle.std.proofs.Common.{◌≡◌, ◌∙◌, ℕ, suc, List, [], ◌∷◌, length, refl, sym, ap, Vec, Global}
 use Rattle.std.specs.Prelude.{Result, Err}
-use Rattle.tree_shape.specs.Trees.{Trees}
-use Rattle.page_reader.specs.declared.fault.PageFault.{PageFault}
+use Rattle.cell_places.specs.View.{View}
 use Rattle.page_reader.specs.declared.fault.PageFault.TheVariants as page
-use Rattle.page_reader.specs.declared.page.PageParts.{PageParts}
 use Rattle.page_reader.specs.declared.page.ScriptText.{ScriptText}
-use Rattle.page_reader.specs.Page.{IsPage, IsPageFault}
-use Rattle.page_reader.specs.Reading.{NoFault, OnlyFault}
 use Rattle.js_tree.specs.declared.code.Program.{Program}
 use Rattle.js_parser.specs.declared.fault.ScriptFault.{ScriptFault}
-use Rattle.page_scripts.specs.declared.fault.ScriptsFault.{ScriptsFault}
-use Rattle.page_scripts.specs.declared.fault.ScriptsFault.TheVariants as scripts
-use Rattle.page_scripts.specs.Programs.{ArePrograms, FirstFault, Judged}
-use Rattle.crom_host.specs.Faults.{of_page, of_scripts}
-use Rattle.crom_host.specs.Checking.{IsChecked, IsScriptFault, CountSays, OnlyCount, OnlyRule, OnlyScript}
+use Rattle.page_loading.specs.declared.fault.LoadFault.{LoadFault}
+use Rattle.page_loading.specs.declared.fault.LoadFault.TheVariants.{Page, Script, NoMemory}
+use Rattle.page_loading.specs.Programs.{ArePrograms}
+use Rattle.page_loading.specs.Loading.{ReadsScripts, Loaded, OnlyPrograms, OnlyRule, OnlyScript}
+use Rattle.crom_host.specs.Checking.{IsChecked, CountSays, OnlyCount}
 
--- ---- the page is none
+-- what was read or wasn't
+abbrev pub Failed : LoadFault → Result (Vec Program Global) LoadFault
+Failed fault = Err fault
 
-pub page_says : (fault : PageFault) (bytes : List ℕ) → ((number at : ℕ) → fault ≡ page.Rule number at → IsPageFault bytes number at) → CountSays (Err (of_page fault)) bytes
-page_says (page.Rule number at) bytes says = says number at refl
-page_says page.NoMemory bytes says = tt
-
-pub page_only : (fault : PageFault) (count : ℕ) → NoFault (let failed : Result PageParts PageFault = Err fault in failed) → OnlyCount (Err (of_page fault)) count
-page_only (page.Rule number at) count none = none
-page_only page.NoMemory count none = tt
-
-pub page_only_rule : (fault : PageFault) (number at : ℕ) → OnlyFault (let failed : Result PageParts PageFault = Err fault in failed) number at → OnlyRule (Err (of_page fault)) number at
-page_only_rule (page.Rule n a) number at same = same
-page_only_rule page.NoMemory number at same = tt
-
-pub page_only_script : (fault : PageFault) (index : ℕ) (given : ScriptFault) → NoFault (let failed : Result PageParts PageFault = Err fault in failed) → OnlyScript (Err (of_page fault)) index given
-page_only_script (page.Rule n a) index given none = none
-page_only_script page.NoMemory index given none = tt
-
--- ---- the page is one
-
--- As many scripts as programs.
+-- as many scripts as programs
 lengths : (bytes : List ℕ) (some : List ScriptText) (programs : List Program) → ArePrograms bytes some programs → length programs ≡ length some
 lengths bytes [] [] have = refl
 lengths bytes [] (program ∷ programs) have = absurd have
 lengths bytes (script ∷ some) [] have = absurd have
 lengths bytes (script ∷ some) (program ∷ programs) have = ap (λ (n : ℕ). suc n) (lengths bytes some programs have.1)
 
--- A page has one tree and one list of scripts.
-abbrev pub IsOne : List ℕ → Type 0
-IsOne bytes = (trees trees' : Trees) (some more : List ScriptText) → IsPage bytes trees some → IsPage bytes trees' more → (trees ≡ trees') × (some ≡ more)
+pub counted : (old new : View) (bytes : List ℕ) (programs : List Program) → ReadsScripts old new bytes programs → IsChecked bytes (length programs)
+counted old new bytes programs read = record {
+  trees = read.page.trees;
+  scripts = read.scripts;
+  reads = read.page.page;
+  programs = programs;
+  have = read.have;
+  counted = lengths bytes read.scripts programs read.have;
+}
 
-module _ (bytes : List ℕ) (trees : Trees) (some : List ScriptText) (reads : IsPage bytes trees some) where
-  pub counted : (programs : List Program) → ArePrograms bytes some programs → IsChecked bytes (length programs)
-  counted programs have = record { trees = trees; scripts = some; reads = reads; programs = programs; have = have; counted = lengths bytes some programs have }
+pub fault_says : (old new : View) (bytes : List ℕ) (fault : LoadFault) → Loaded (Failed fault) old new bytes → CountSays (Err fault) bytes
+fault_says old new bytes (Page (page.Rule number at)) says = says.0
+fault_says old new bytes (Page page.NoMemory) says = says
+fault_says old new bytes (Script index fault) says = record { trees = says.1.trees; scripts = says.0; reads = says.1.page; first = says.2 }
+fault_says old new bytes NoMemory says = tt
 
-  pub scripts_say : {A : Type 0} (Are : A → Type 0) (fault : ScriptsFault) → Judged Are (FirstFault bytes some) (Err fault) → CountSays (Err (of_scripts fault)) bytes
-  scripts_say Are (scripts.Script index given) first = record { trees = trees; scripts = some; reads = reads; first = first }
-  scripts_say Are scripts.NoMemory first = tt
+-- a page whose scripts all have programs has this count
+pub only_counted : (bytes : List ℕ) (programs : List Program) (count : ℕ) (checked : IsChecked bytes count) → programs ≡ checked.programs → length programs ≡ count
+only_counted bytes programs count checked same = ap length same ∙ lengths bytes checked.scripts checked.programs checked.have ∙ sym checked.counted
 
-  module _ (one : IsOne bytes) where
-    pub only_counted : (programs : List Program) → ArePrograms bytes some programs → (count : ℕ) → IsChecked bytes count → length programs ≡ count
-    only_counted programs have count c =
-        lengths bytes some programs have ∙ ap (λ (l : List ScriptText). length l) (one trees c.trees some c.scripts reads c.reads).1 ∙ sym c.counted
+pub fault_only : (fault : LoadFault) (programs : List Program) (count : ℕ) → OnlyPrograms (Failed fault) programs → OnlyCount (Err fault) count
+fault_only (Page given) programs count only = only
+fault_only (Script index given) programs count only = only
+fault_only NoMemory programs count only = tt
 
-    pub own_programs : (count : ℕ) → IsChecked bytes count → (programs : List Program) × ArePrograms bytes some programs
-    own_programs count c = (c.programs, subst (λ (l : List ScriptText). ArePrograms bytes l c.programs) (sym (one trees c.trees some c.scripts reads c.reads).1) c.have)
+pub fault_only_rule : (fault : LoadFault) (number at : ℕ) → OnlyRule (Failed fault) number at → OnlyRule {A = ℕ} (Err fault) number at
+fault_only_rule (Page (page.Rule n a)) number at same = same
+fault_only_rule (Page page.NoMemory) number at same = same
+fault_only_rule (Script index given) number at same = same
+fault_only_rule NoMemory number at same = tt
 
-    pub own_fault : (index : ℕ) (given : ScriptFault) → IsScriptFault bytes index given → FirstFault bytes some index given
-    own_fault index given c = subst (λ (l : List ScriptText). FirstFault bytes l index given) (sym (one trees c.trees some c.scripts reads c.reads).1) c.first
-
-pub scripts_only : {A : Type 0} (Are : A → Type 0) (fault : ScriptsFault) (count : ℕ) → Judged Are (λ _ _. ⊥) (Err fault) → OnlyCount (Err (of_scripts fault)) count
-scripts_only Are (scripts.Script index given) count none = none
-scripts_only Are scripts.NoMemory count none = tt
-
-pub scripts_only_script : {A : Type 0} (Are : A → Type 0) (fault : ScriptsFault) (index : ℕ) (given : ScriptFault)
-    → Judged Are (λ number shown. (number ≡ index) × (shown ≡ given)) (Err fault) → OnlyScript (Err (of_scripts fault)) index given
-scripts_only_script Are (scripts.Script number shown) index given same = same
-scripts_only_script Are scripts.NoMemory index given same = tt
+pub fault_only_script : (fault : LoadFault) (index : ℕ) (given : ScriptFault) → OnlyScript (Failed fault) index given → OnlyScript {A = ℕ} (Err fault) index given
+fault_only_script (Page fault) index given same = same
+fault_only_script (Script number shown) index given same = same
+fault_only_script NoMemory index given same = tt

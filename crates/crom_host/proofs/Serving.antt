@@ -3,14 +3,14 @@ use Rattle.std.proofs.Common.{◌≡◌, ◌⊎◌, ℕ, List, [], Option, Resul
 use Rattle.std.specs.declared.alloc.AllocError.{AllocError}
 use Rattle.crom_host.specs.declared.stream.Ended.{Ended}
 use Rattle.crom_host.specs.declared.stream.Ended.TheVariants.{End, Closed, Halted, Truncated, RequestBound, ReadFault, WriteFault}
-use Rattle.crom_host.specs.Stream.{StreamCauses}
-use Rattle.page_reader.specs.declared.fault.PageFault.{PageFault}
 use Rattle.page_reader.specs.declared.fault.PageFault.TheVariants.{Rule, NoMemory}
-use Rattle.page_reader.specs.Reading.{OnlyFault}
+use Rattle.page_loading.specs.declared.fault.LoadFault.{LoadFault}
+use Rattle.page_loading.specs.declared.fault.LoadFault.TheVariants as load
+use Rattle.crom_host.specs.Faults.{status_of as of_load}
 use Rattle.crom_host.specs.declared.status.Status.TheVariants as s
-use Rattle.crom_host.specs.declared.host.Loaded.{Loaded}
 use Rattle.crom_host.specs.Loading.{LoadSays, OnlyReady}
-use Rattle.crom_host.specs.Headline.{Headline, EndsStdio, Causes, Calm, IsRefused, Served, status_of, status_of_fault}
+use Rattle.crom_host.specs.Stream.{StreamCauses}
+use Rattle.crom_host.specs.Headline.{Headline, EndsStdio, counts, Causes, Served, status_of}
 
 pub headline_of : (result : Result Ended AllocError) (page bytes written : List ℕ) (left : Option (List ℕ)) → Served result page bytes written left → Headline (status_of result) page bytes written left
 headline_of (Ok End) page bytes written left served = inl served
@@ -23,7 +23,7 @@ headline_of (Ok WriteFault) page bytes written left served = served
 headline_of (Err e) page bytes written left served = inr (e, served)
 
 pub causes_of : (result : Result Ended AllocError) (shelf shelf' input input' output output' : ℕ) → shelf' ≡ shelf → StreamCauses result input input' output output'
-    → Causes (status_of result) shelf shelf' input input' output output'
+    → Causes (status_of result) (counts shelf input output) (counts shelf' input' output')
 causes_of (Ok End) _ _ _ _ _ _ same c = (same, c.0, c.1)
 causes_of (Ok Closed) _ _ _ _ _ _ same c = (same, c.0, c.1)
 causes_of (Ok Halted) _ _ _ _ _ _ same c = (same, c.0, c.1)
@@ -33,31 +33,24 @@ causes_of (Ok ReadFault) _ _ _ _ _ _ same c = (same, c.0, c.1)
 causes_of (Ok WriteFault) _ _ _ _ _ _ same c = (same, c.0, c.1)
 causes_of (Err e) _ _ _ _ _ _ same c = (same, c.0, c.1)
 
--- what a page that wasn't read leaves
-pub fault_headline : (fault : PageFault) (page bytes : List ℕ) (left : Option (List ℕ)) → LoadSays (Err fault) page → Headline (status_of_fault fault) page bytes [] left
-fault_headline (Rule number at) page bytes left says = (says, refl)
-fault_headline NoMemory page bytes left says = inl refl
+-- what a page that wasn't loaded leaves
+pub fault_headline : (fault : LoadFault) (page bytes : List ℕ) (left : Option (List ℕ)) → LoadSays (Err fault) page → Headline (of_load fault) page bytes [] left
+fault_headline (load.Page (Rule number at)) page bytes left says = (says, refl)
+fault_headline (load.Page NoMemory) page bytes left says = absurd says
+fault_headline (load.Script index given) page bytes left says = (says, refl)
+fault_headline load.NoMemory page bytes left says = inl refl
 
-pub fault_refused : (fault : PageFault) (number at : ℕ) → OnlyFault (let failed : Result Loaded PageFault = Err fault in failed) number at → IsRefused (status_of_fault fault) number at
-fault_refused (Rule n a) number at same = same
-fault_refused NoMemory number at same = tt
-
-pub fault_causes : (fault : PageFault) (shelf shelf' input input' output output' : ℕ) → Calm shelf shelf' input input' output output' → Causes (status_of_fault fault) shelf shelf' input input' output output'
-fault_causes (Rule n a) _ _ _ _ _ _ calm = calm
-fault_causes NoMemory _ _ _ _ _ _ calm = calm
-
-pub fault_complete : (fault : PageFault) → OnlyReady (Err fault) → (status_of_fault fault ≡ s.Ended) ⊎ (status_of_fault fault ≡ s.NoMemory)
-fault_complete (Rule n a) none = absurd none
-fault_complete NoMemory none = inr refl
-
-pub fault_no_usage : (fault : PageFault) → status_of_fault fault ≡ s.Usage → ⊥
-fault_no_usage (Rule n a) e = absurd cc
-fault_no_usage NoMemory e = absurd cc
+pub fault_ready : (fault : LoadFault) → OnlyReady (Err fault) → (of_load fault ≡ s.Ended) ⊎ (of_load fault ≡ s.NoMemory)
+fault_ready (load.Page given) none = absurd none
+fault_ready (load.Script index given) none = absurd none
+fault_ready load.NoMemory none = inr refl
 
 -- serving ends so
-pub fault_ends : (fault : PageFault) → EndsStdio (status_of_fault fault)
-fault_ends (Rule n a) = tt
-fault_ends NoMemory = tt
+pub load_ends : (fault : LoadFault) → EndsStdio (of_load fault)
+load_ends (load.Page (Rule n a)) = tt
+load_ends (load.Page NoMemory) = tt
+load_ends (load.Script index given) = tt
+load_ends load.NoMemory = tt
 
 pub outcome_ends : (result : Result Ended AllocError) → EndsStdio (status_of result)
 outcome_ends (Ok End) = tt

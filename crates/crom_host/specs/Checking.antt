@@ -6,10 +6,10 @@ use Rattle.page_reader.specs.declared.fault.PageFault.TheVariants as fault
 use Rattle.page_reader.specs.declared.page.ScriptText.{ScriptText}
 use Rattle.page_reader.specs.Page.{IsPage, IsPageFault}
 use Rattle.js_tree.specs.declared.code.Program.{Program}
-use Rattle.js_parser.specs.declared.fault.ScriptFault.{ScriptFault}
-use Rattle.page_scripts.specs.Programs.{ArePrograms, FirstFault}
-use Rattle.crom_host.specs.declared.fault.LoadFault.{LoadFault}
-use Rattle.crom_host.specs.declared.fault.LoadFault.TheVariants as load
+use Rattle.page_loading.specs.Programs.{ArePrograms}
+use Rattle.page_loading.specs.declared.fault.LoadFault.{LoadFault}
+use Rattle.page_loading.specs.declared.fault.LoadFault.TheVariants as load
+use Rattle.crom_host.specs.Loading.{IsScriptFault}
 use Rattle.crom_host.specs.declared.status.Status.{Status}
 use Rattle.crom_host.specs.declared.status.Status.TheVariants.{Ended, Usage, Page, Script, NotBuilt, ReadFault, WriteFault, NoMemory, ShelfFault, Truncated, RequestBound}
 
@@ -21,13 +21,6 @@ pub record IsChecked (page : List ℕ) (count : ℕ) : Type 0 where
   pub programs : List Program
   pub have : ArePrograms page scripts programs
   pub counted : count ≡ length scripts
-
--- The bytes are a page, and the first of its scripts that is none has this number and shows this fault.
-pub record IsScriptFault (page : List ℕ) (index : ℕ) (fault : ScriptFault) : Type 0 where
-  pub trees : Trees
-  pub scripts : List ScriptText
-  pub reads : IsPage page trees scripts
-  pub first : FirstFault page scripts index fault
 
 -- what is said of a page's scripts that were counted
 abbrev pub CountSays : Result ℕ LoadFault → (page : List ℕ) → Type 0
@@ -43,21 +36,6 @@ OnlyCount (Ok given) count = given ≡ count
 OnlyCount (Err (load.Page fault)) count = ⊥
 OnlyCount (Err (load.Script index fault)) count = ⊥
 OnlyCount (Err load.NoMemory) count = ⊤
-
--- this fault of the page, unless memory was refused
-abbrev pub OnlyRule : Result ℕ LoadFault → (number at : ℕ) → Type 0
-OnlyRule (Ok given) number at = ⊥
-OnlyRule (Err (load.Page (fault.Rule n a))) number at = (n ≡ number) × (a ≡ at)
-OnlyRule (Err (load.Page fault.NoMemory)) number at = ⊥
-OnlyRule (Err (load.Script index fault)) number at = ⊥
-OnlyRule (Err load.NoMemory) number at = ⊤
-
--- this fault of a script, unless memory was refused
-abbrev pub OnlyScript : Result ℕ LoadFault → (index : ℕ) → ScriptFault → Type 0
-OnlyScript (Ok given) index fault = ⊥
-OnlyScript (Err (load.Page fault')) index fault = ⊥
-OnlyScript (Err (load.Script i f)) index fault = (i ≡ index) × (f ≡ fault)
-OnlyScript (Err load.NoMemory) index fault = ⊤
 
 -- the line that tells how many scripts were read
 abbrev pub count_line : ℕ → List ℕ
@@ -102,10 +80,3 @@ EndsCheck ShelfFault = ⊤
 EndsCheck WriteFault = ⊤
 EndsCheck NoMemory = ⊤
 EndsCheck _ = ⊥
-
--- the run ended with this fault of a script, or before the page was read
-abbrev pub IsScriptRefused : Status → (index : ℕ) → ScriptFault → Type 0
-IsScriptRefused (Script i f) index fault = (i ≡ index) × (f ≡ fault)
-IsScriptRefused ShelfFault index fault = ⊤
-IsScriptRefused NoMemory index fault = ⊤
-IsScriptRefused _ index fault = ⊥

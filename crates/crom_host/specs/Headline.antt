@@ -1,5 +1,5 @@
 -- What `run` says of the page that is loaded, and of faults.
-use Rattle.std.specs.Prelude.{◌≡◌, ◌⊎◌, ◌≤◌, ℕ, List, [], length, Option, Result, Ok, Err, ⊤}
+use Rattle.std.specs.Prelude.{◌≡◌, ◌⊎◌, ◌≤◌, ℕ, List, [], length, Bool, true, false, Option, Some, None, Result, Ok, Err, ⊤}
 use Rattle.std.specs.declared.alloc.AllocError.{AllocError}
 use Rattle.page_units.specs.declared.limits.Limit.TheVariants.{Served as ServedLimit}
 use Rattle.page_units.specs.Limits.{default_limit}
@@ -7,7 +7,7 @@ use Rattle.page_units.specs.Outside.{Rose}
 use Rattle.cell_places.specs.Heap.{Heap}
 use Rattle.http_wire.specs.Messages.{Message}
 use Rattle.http_wire.specs.Requests.{RequestsOf, ended}
-use Rattle.page_reader.specs.declared.fault.PageFault.{PageFault}
+use Rattle.js_parser.specs.declared.fault.ScriptFault.{ScriptFault}
 use Rattle.page_reader.specs.declared.fault.PageFault.TheVariants as fault
 use Rattle.page_reader.specs.Page.{IsPageFault}
 use Rattle.crom_host.specs.declared.status.Status.{Status}
@@ -15,7 +15,7 @@ use Rattle.crom_host.specs.declared.status.Status.TheVariants.{Ended, Usage, Pag
 use Rattle.crom_host.specs.declared.stream.Ended as stream
 use Rattle.crom_host.specs.declared.stream.Ended.TheVariants as end
 use Rattle.crom_host.specs.Plain.{default_settings, PlainHost, hosted, Loads}
-use Rattle.crom_host.specs.Loading.{IsScripted}
+use Rattle.crom_host.specs.Loading.{IsScripted, IsScriptFault}
 use Rattle.crom_host.specs.Stream.{Streamed}
 
 -- the status of a run whose stream ended so
@@ -28,11 +28,6 @@ status_of (Ok end.RequestBound) = RequestBound
 status_of (Ok end.ReadFault) = ReadFault
 status_of (Ok end.WriteFault) = WriteFault
 status_of (Err e) = NoMemory
-
--- the status of a run whose page wasn't read
-abbrev pub status_of_fault : PageFault → Status
-status_of_fault (fault.Rule number at) = Page (fault.Rule number at)
-status_of_fault fault.NoMemory = NoMemory
 
 -- the page was loaded, and its host served the stream
 pub record Served (result : Result stream.Ended AllocError) (page bytes written : List ℕ) (left : Option (List ℕ)) : Type 0 where
@@ -48,7 +43,7 @@ Headline Usage page bytes written left = ⊥
 Headline ShelfFault page bytes written left = written ≡ []
 Headline (Page (fault.Rule number at)) page bytes written left = IsPageFault page number at × (written ≡ [])
 Headline (Page fault.NoMemory) page bytes written left = ⊥
-Headline (Script index fault) page bytes written left = ⊥
+Headline (Script index fault) page bytes written left = IsScriptFault page index fault × (written ≡ [])
 Headline NotBuilt page bytes written left = IsScripted page × (written ≡ [])
 Headline NoMemory page bytes written left = (written ≡ []) ⊎ ((e : AllocError) × Served (Err e) page bytes written left)
 Headline Ended page bytes written left =
@@ -62,7 +57,6 @@ Headline WriteFault page bytes written left = Served (Ok end.WriteFault) page by
 abbrev pub EndsStdio : Status → Type 0
 EndsStdio Usage = ⊥
 EndsStdio (Page fault.NoMemory) = ⊥
-EndsStdio (Script index fault) = ⊥
 EndsStdio _ = ⊤
 
 -- the run ended with this fault of the page, or before the page was read
@@ -72,23 +66,55 @@ IsRefused ShelfFault number at = ⊤
 IsRefused NoMemory number at = ⊤
 IsRefused _ number at = ⊥
 
--- no count rose
-abbrev pub Calm : (shelf shelf' input input' output output' : ℕ) → Type 0
-Calm shelf shelf' input input' output output' = (shelf' ≡ shelf) × (input' ≡ input) × (output' ≡ output)
+-- the run ended with this fault of a script, or before the page was read
+abbrev pub IsScriptRefused : Status → (index : ℕ) → ScriptFault → Type 0
+IsScriptRefused (Script i f) index fault = (i ≡ index) × (f ≡ fault)
+IsScriptRefused ShelfFault index fault = ⊤
+IsScriptRefused NoMemory index fault = ⊤
+IsScriptRefused _ index fault = ⊥
 
--- Each fault comes only where its count rose, and an end without a fault only where none did.
-abbrev pub Causes : Status → (shelf shelf' input input' output output' : ℕ) → Type 0
-Causes Ended shelf shelf' input input' output output' = Calm shelf shelf' input input' output output'
-Causes Usage shelf shelf' input input' output output' = Calm shelf shelf' input input' output output'
-Causes (Page fault) shelf shelf' input input' output output' = Calm shelf shelf' input input' output output'
-Causes (Script index fault) shelf shelf' input input' output output' = Calm shelf shelf' input input' output output'
-Causes NotBuilt shelf shelf' input input' output output' = Calm shelf shelf' input input' output output'
-Causes Truncated shelf shelf' input input' output output' = Calm shelf shelf' input input' output output'
-Causes RequestBound shelf shelf' input input' output output' = Calm shelf shelf' input input' output output'
-Causes NoMemory shelf shelf' input input' output output' = Calm shelf shelf' input input' output output'
-Causes ShelfFault shelf shelf' input input' output output' = Rose shelf shelf' × (input' ≡ input) × (output' ≡ output)
-Causes ReadFault shelf shelf' input input' output output' = (shelf' ≡ shelf) × Rose input input' × (output' ≡ output)
-Causes WriteFault shelf shelf' input input' output output' = (shelf' ≡ shelf) × (input' ≡ input) × Rose output output'
+-- the devices of a run, each of which counts its faults
+pub data Device : Type 0 where
+  the_shelf the_input the_output : Device
+
+pub record Counts : Type 0 where
+  pub shelf : ℕ
+  pub input : ℕ
+  pub output : ℕ
+
+abbrev pub counts : (shelf input output : ℕ) → Counts
+counts shelf input output = record { shelf = shelf; input = input; output = output }
+
+-- the device whose fault a status is
+abbrev pub device_of : Status → Option Device
+device_of ShelfFault = Some the_shelf
+device_of ReadFault = Some the_input
+device_of WriteFault = Some the_output
+device_of _ = None
+
+-- a device's count of faults rose where it is the one, and else stayed
+abbrev pub CountIs : (is_the_one : Bool) → (old new : ℕ) → Type 0
+CountIs true old new = Rose old new
+CountIs false old new = new ≡ old
+
+abbrev pub is_shelf : Option Device → Bool
+is_shelf (Some the_shelf) = true
+is_shelf _ = false
+
+abbrev pub is_input : Option Device → Bool
+is_input (Some the_input) = true
+is_input _ = false
+
+abbrev pub is_output : Option Device → Bool
+is_output (Some the_output) = true
+is_output _ = false
+
+-- Each fault comes only where its device's count rose, and an end without a fault only where none did.
+abbrev pub Causes : Status → (old new : Counts) → Type 0
+Causes status old new =
+    CountIs (is_shelf (device_of status)) old.shelf new.shelf
+    × CountIs (is_input (device_of status)) old.input new.input
+    × CountIs (is_output (device_of status)) old.output new.output
 
 -- a page that is read and has no script, and an input of whole requests within the bound
 pub record IsWhole (page bytes : List ℕ) : Type 0 where

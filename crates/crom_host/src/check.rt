@@ -3,15 +3,14 @@ ghost use Rattle.std.specs.Prelude.{◌≡◌, ◌⊎◌, ℕ, ◌++◌, List, t
 ghost use Rattle.page_units.specs.Outside.{Rose};
 ghost use Rattle.page_reader.specs.Page.{IsPageFault};
 ghost use Rattle.js_parser.specs.declared.fault.ScriptFault.{ScriptFault};
-ghost use Rattle.crom_host.specs.Faults as faults;
-ghost use Rattle.crom_host.specs.Headline.{IsRefused, Causes};
-ghost use Rattle.crom_host.specs.Checking.{IsChecked, IsScriptFault, CountSays, OnlyCount, OnlyRule, OnlyScript, Checked, IsScriptRefused, EndsCheck, Writes, count_line};
+ghost use Rattle.crom_host.specs.Headline.{IsRefused, IsScriptRefused, counts, Causes};
+ghost use Rattle.crom_host.specs.Loading.{IsScriptFault};
+ghost use Rattle.page_loading.specs.Loading.{OnlyRule, OnlyScript};
+ghost use Rattle.crom_host.specs.Checking.{IsChecked, CountSays, OnlyCount, Checked, EndsCheck, Writes, count_line};
 
-use crate::fault::LoadFault;
 use crate::status::Status;
 use cell_heap::Base;
-use page_reader::{PageFault, read_page};
-use page_scripts::programs_of;
+use page_loading::{LoadFault, read_scripts};
 use page_units::{FETCHED_BYTES, Fetched, Limit, Shelf, Sink, Wrote, write_all};
 use std::alloc::Global;
 
@@ -19,7 +18,9 @@ use std::alloc::Global;
 pub fn check<F: Shelf, W: Sink>(alloc: Global, name: &str, shelf: &mut F, output: &mut W) -> Status
     ensures usage { result ≡ Status.Usage → ⊥ }
     ensures ends { EndsCheck result }
-    ensures causes { (input : ℕ) → Causes result (F.faults shelf.old) (F.faults shelf.new) input input (W.faults output.old) (W.faults output.new) }
+    ensures causes { (input : ℕ) → Causes result
+        (counts (F.faults shelf.old) input (W.faults output.old))
+        (counts (F.faults shelf.new) input (W.faults output.new)) }
     ensures checked { (page old : List ℕ) → F.file shelf.old name.now ≡ Some page → W.told output.old ≡ Some old
         → (written : List ℕ) × (W.told output.new ≡ Some (old ++ written)) × Checked result (take FETCHED_BYTES page) written }
     ensures refused { (page : List ℕ) → F.file shelf.old name.now ≡ Some page
@@ -37,7 +38,7 @@ pub fn check<F: Shelf, W: Sink>(alloc: Global, name: &str, shelf: &mut F, output
     };
     match count_scripts(alloc, page.as_slice()) {
         Ok(count) => write_count(alloc, output, count),
-        Err(fault) => status_of(fault),
+        Err(fault) => Status::of_load(fault),
     }
 }
 
@@ -49,13 +50,9 @@ fn count_scripts(alloc: Global, page: &[u8]) -> Result<usize, LoadFault>
     ensures only_script { (index : ℕ) (fault : ScriptFault) → IsScriptFault page.now index fault → OnlyScript result index fault }
 {
     let mut base = Base::start(alloc, Limit::Weight.default_number(), 0)?;
-    let parts = match read_page(alloc, &mut base, page) {
-        Ok(parts) => parts,
-        Err(fault) => return Err(LoadFault::from(fault)),
-    };
-    match programs_of(alloc, page, parts.scripts.as_slice()) {
+    match read_scripts(alloc, &mut base, page) {
         Ok(programs) => Ok(programs.len()),
-        Err(fault) => Err(LoadFault::from(fault)),
+        Err(fault) => Err(fault),
     }
 }
 
@@ -71,17 +68,5 @@ fn write_count<W: Sink>(alloc: Global, output: &mut W, count: usize) -> Status
         Ok(Wrote::All) => Status::Ended,
         Ok(Wrote::Failed) => Status::WriteFault,
         Err(_) => Status::NoMemory,
-    }
-}
-
-/// The status of a run whose page or scripts weren't read.
-fn status_of(fault: LoadFault) -> Status
-    ensures { result ≡ faults.status_of fault }
-{
-    match fault {
-        LoadFault::Page(PageFault::Rule(number, at)) => Status::Page(PageFault::Rule(number, at)),
-        LoadFault::Page(PageFault::NoMemory) => Status::NoMemory,
-        LoadFault::Script(index, fault) => Status::Script(index, fault),
-        LoadFault::NoMemory => Status::NoMemory,
     }
 }

@@ -6,16 +6,17 @@ ghost use Rattle.cell_places.specs.Sound.{IsSound};
 ghost use Rattle.cell_heap.specs.Base.{heap_of};
 ghost use Rattle.tree_shape.specs.Trees.{Trees};
 ghost use Rattle.page_reader.specs.Page.{IsPage, IsPageFault};
-ghost use Rattle.page_reader.specs.Reading.{OnlyFault};
+ghost use Rattle.js_parser.specs.declared.fault.ScriptFault.{ScriptFault};
+ghost use Rattle.page_loading.specs.Loading.{OnlyRule, OnlyScript};
 ghost use Rattle.wire_replies.specs.ReplyBytes.{IsReply};
 ghost use Rattle.crom_host.specs.Replying as replies;
 ghost use Rattle.crom_host.specs.Plain.{default_settings, hosted, Answered, PlainStep, Serves, ServesId};
-ghost use Rattle.crom_host.specs.Loading.{LoadSays, OnlyReady};
+ghost use Rattle.crom_host.specs.Loading.{IsScriptFault, LoadSays, OnlyReady};
 
 use cell_heap::Base;
 use cell_places::DOCUMENT;
 use dom_tree::{dom_text, element_by_id};
-use page_reader::{PageFault, read_page};
+use page_loading::{LoadFault, read_scripts};
 use page_units::{CellName, Limit, NoMemory, Text};
 use std::alloc::Global;
 use wire_asks::{Asked, Refusal};
@@ -30,20 +31,29 @@ pub enum Loaded {
     HasScripts,
 }
 
-/// Loads a page. `Rule` comes exactly where the bytes are no page, with the number of the rule
-/// that they break and the byte at which; `HasScripts` exactly where the page has a script.
-pub fn load(alloc: Global, page: &[u8]) -> Result<Loaded, PageFault>
+/// Loads a page and reads its scripts, none of which is run. `HasScripts` comes exactly where the
+/// page has a script and each has a program.
+///
+/// # Errors
+///
+/// `Page` exactly where the bytes are not a page: the rule that they break. `Script` exactly where a
+/// script of the page is not a program: the number and the fault of the first such. `NoMemory` where
+/// the allocator refused.
+pub fn load(alloc: Global, page: &[u8]) -> Result<Loaded, LoadFault>
     ensures says { LoadSays result page.now }
     // A page without scripts is loaded, and what breaks a rule is refused with it.
     ensures only { (trees : Trees) → IsPage page.now trees [] → OnlyReady result }
-    ensures only_fault { (number at : ℕ) → IsPageFault page.now number at → OnlyFault result number at }
+    ensures only_rule { (number at : ℕ) → IsPageFault page.now number at
+        → OnlyRule result number at }
+    ensures only_script { (index : ℕ) (fault : ScriptFault) → IsScriptFault page.now index fault
+        → OnlyScript result index fault }
 {
     let mut base = Base::start(alloc, Limit::Weight.default_number(), 0)?;
-    let parts = match read_page(alloc, &mut base, page) {
-        Ok(parts) => parts,
+    let programs = match read_scripts(alloc, &mut base, page) {
+        Ok(programs) => programs,
         Err(fault) => return Err(fault),
     };
-    if parts.scripts.is_empty() {
+    if programs.is_empty() {
         Ok(Loaded::Ready(base))
     } else {
         Ok(Loaded::HasScripts)

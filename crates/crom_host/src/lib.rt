@@ -3,7 +3,6 @@
 #![tactic(auto)]
 
 mod check;
-mod fault;
 mod host;
 mod program;
 mod status;

@@ -5,8 +5,9 @@ ghost use Rattle.page_units.specs.Outside.{Rose};
 ghost use Rattle.page_reader.specs.Page.{IsPageFault};
 ghost use Rattle.js_parser.specs.declared.fault.ScriptFault.{ScriptFault};
 ghost use Rattle.crom_host.specs.Words.{stdio_word, check_word, IsUsage, Names};
-ghost use Rattle.crom_host.specs.Headline.{Headline, EndsStdio, Causes, IsRefused, IsWhole};
-ghost use Rattle.crom_host.specs.Checking.{IsChecked, IsScriptFault, Checked, IsScriptRefused, EndsCheck};
+ghost use Rattle.crom_host.specs.Headline.{Headline, EndsStdio, counts, Causes, IsRefused, IsScriptRefused, IsWhole};
+ghost use Rattle.crom_host.specs.Checking.{IsChecked, Checked, EndsCheck};
+ghost use Rattle.crom_host.specs.Loading.{IsScriptFault};
 
 use crate::check::check;
 use crate::status::Status;
@@ -26,7 +27,9 @@ pub fn run<F: Shelf, S: Source, W: Sink>(
     output: &mut W,
 ) -> Status
     ensures usage { (result ≡ Status.Usage) ↔ IsUsage (map string_bytes words.now.items) }
-    ensures causes { Causes result (F.faults shelf.old) (F.faults shelf.new) (S.faults input.old) (S.faults input.new) (W.faults output.old) (W.faults output.new) }
+    ensures causes { Causes result
+        (counts (F.faults shelf.old) (S.faults input.old) (W.faults output.old))
+        (counts (F.faults shelf.new) (S.faults input.new) (W.faults output.new)) }
     ensures headline { (name page bytes old : List ℕ) → stdio_word (map string_bytes words.now.items) ≡ Some name
         → F.file shelf.old name ≡ Some page → S.left input.old ≡ Some bytes → W.told output.old ≡ Some old
         → (written : List ℕ) × (W.told output.new ≡ Some (old ++ written)) × Headline result (take FETCHED_BYTES page) bytes written (S.left input.new) }
@@ -34,7 +37,7 @@ pub fn run<F: Shelf, S: Source, W: Sink>(
     ensures checked { (name page old : List ℕ) → check_word (map string_bytes words.now.items) ≡ Some name
         → F.file shelf.old name ≡ Some page → W.told output.old ≡ Some old
         → (written : List ℕ) × (W.told output.new ≡ Some (old ++ written)) × Checked result (take FETCHED_BYTES page) written }
-    // Serving ends with no status of checking, and checking with none of serving.
+    // Serving never ends with usage, and checking with no status of serving.
     ensures ends { (name : List ℕ) → stdio_word (map string_bytes words.now.items) ≡ Some name
         → EndsStdio result }
     ensures ends_check { (name : List ℕ) → check_word (map string_bytes words.now.items) ≡ Some name
@@ -44,8 +47,8 @@ pub fn run<F: Shelf, S: Source, W: Sink>(
     // A page that breaks a rule is refused with it.
     ensures refused { (name page : List ℕ) → Names (map string_bytes words.now.items) name → F.file shelf.old name ≡ Some page
         → (number at : ℕ) → IsPageFault (take FETCHED_BYTES page) number at → IsRefused result number at }
-    // A page that is checked, one of whose scripts is none, is refused with the first such and its fault.
-    ensures refused_script { (name page : List ℕ) → check_word (map string_bytes words.now.items) ≡ Some name → F.file shelf.old name ≡ Some page
+    // A page one of whose scripts is not a program is refused with the first such and its fault.
+    ensures refused_script { (name page : List ℕ) → Names (map string_bytes words.now.items) name → F.file shelf.old name ≡ Some page
         → (index : ℕ) (fault : ScriptFault) → IsScriptFault (take FETCHED_BYTES page) index fault → IsScriptRefused result index fault }
     // A page that is read and whole requests within the bound are answered whole, where no count rises.
     ensures complete { (name page bytes old : List ℕ) → stdio_word (map string_bytes words.now.items) ≡ Some name

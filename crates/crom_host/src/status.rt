@@ -2,10 +2,12 @@
 ghost use Rattle.std.specs.Prelude.{◌≡◌, Some};
 ghost use Rattle.std.specs.Option.{option_copied};
 ghost use Rattle.crom_host.specs.Statuses.{status_number, status_line};
+ghost use Rattle.crom_host.specs.Faults as faults;
 ghost use Rattle.crom_host.specs.Statuses as spec;
 
 use js_lexer::LexFault;
 use js_parser::ScriptFault;
+use page_loading::LoadFault;
 use page_reader::PageFault;
 use std::fmt;
 
@@ -40,6 +42,18 @@ pub enum Status {
 }
 
 impl Status {
+    /// The status of a run whose page wasn't loaded.
+    pub(crate) fn of_load(fault: LoadFault) -> Status
+        ensures { result ≡ faults.status_of fault }
+    {
+        match fault {
+            LoadFault::Page(PageFault::Rule(rule, at)) => Status::Page(PageFault::Rule(rule, at)),
+            LoadFault::Page(PageFault::NoMemory) => Status::NoMemory,
+            LoadFault::Script(index, fault) => Status::Script(index, fault),
+            LoadFault::NoMemory => Status::NoMemory,
+        }
+    }
+
     /// The number that the program ends with.
     pub fn number(self) -> u8
         ensures { result ≡ status_number self }

@@ -18,3 +18,10 @@ pub mod PlantedTrees
 pub mod PlantingSteps
 pub mod PagePlanted
 pub mod Laws
+pub mod Leaves
+pub mod Places
+pub mod Units
+pub mod EndTags
+pub mod RawScripts
+pub mod Elements
+pub mod ScriptTexts

@@ -12,6 +12,7 @@ pub mod Content
 pub mod PageForm
 pub mod NodeTrees
 pub mod Page
+pub mod Texts
 pub mod Planting
 pub mod Reading
 pub mod Reads

@@ -1,5 +1,5 @@
 //! Reads a page into a heap.
-ghost use Rattle.std.specs.Prelude.{◌≡◌, ◌<◌, ◌+◌, ℕ, List, [], length, OnOk};
+ghost use Rattle.std.specs.Prelude.{◌≡◌, ◌<◌, ◌+◌, ℕ, List, [], length, IfOk, OnOk, All};
 ghost use Rattle.cell_places.specs.Heap.{children_at, weight_left};
 ghost use Rattle.cell_places.specs.View.{heap};
 ghost use Rattle.cell_places.specs.Rooted.{Rooted};
@@ -9,6 +9,7 @@ ghost use Rattle.tree_shape.specs.Trees.{Trees};
 ghost use Rattle.page_reader.specs.declared.page.ScriptText.{ScriptText};
 ghost use Rattle.page_reader.specs.Page.{IsPage, IsPageFault};
 ghost use Rattle.page_reader.specs.Reading.{PageRead, NoFault, OnlyFault};
+ghost use Rattle.page_reader.specs.Texts.{IsText};
 
 use crate::fault::PageFault;
 use crate::plant::plant;
@@ -57,6 +58,8 @@ pub fn read_page<C: Cells>(
         → IsPage bytes.now trees' scripts' → (trees ≡ trees') × (scripts ≡ scripts') }
     // What shows a fault is refused with it.
     ensures only_fault { (rule at : ℕ) → IsPageFault bytes.now rule at → OnlyFault result rule at }
+    // Each script is whole characters of the page.
+    ensures texts { IfOk result (λ parts. All (IsText bytes.now) parts.scripts.items) }
     ensures sound { OnOk result ((codes : ℕ) → IsSound codes (heap (C.seen cells.old))
         → IsSound codes (heap (C.seen cells.new))) }
     ensures sums { OnOk result ((bound : ℕ) → SumsWithin bound (heap (C.seen cells.old))

@@ -12,18 +12,18 @@ pub fn text_bytes(alloc: Global, units: &[u16], raw: bool) -> Result<Vec<u8>, No
     ensures { IfOk result (λ bytes.
         bytes.items ≡ utf8_of_units (cond raw units.now (flat_map escape_text units.now))) }
 {
-    let written = Text::of_units(text_units(alloc, units, raw)?)?;
-    utf8_of(alloc, &written)
+    let written = if raw {
+        Vec::from_slice(alloc, units)?
+    } else {
+        text_units(alloc, units)?
+    };
+    utf8_of(alloc, &Text::of_units(written)?)
 }
 
-/// The units of a text as they are written.
-fn text_units(alloc: Global, units: &[u16], raw: bool) -> Result<Vec<u16>, NoMemory>
-    ensures { IfOk result (λ written.
-        written.items ≡ cond raw units.now (flat_map escape_text units.now)) }
+/// The units of a text as they are written, escaped.
+fn text_units(alloc: Global, units: &[u16]) -> Result<Vec<u16>, NoMemory>
+    ensures { IfOk result (λ written. written.items ≡ flat_map escape_text units.now) }
 {
-    if raw {
-        return Ok(Vec::from_slice(alloc, units)?);
-    }
     let mut written = Vec::with_capacity(alloc, units.len())?;
     for unit in units {
         push_escaped(&mut written, *unit)?;

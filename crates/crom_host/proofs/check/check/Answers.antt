@@ -2,7 +2,8 @@ use Rattle.std.proofs.Common.{◌≡◌, ◌∙◌, ℕ, List, [], take, ap, sym
 use Rattle.std.proofs.lemmas.List.{append-nil}
 use Rattle.page_units.specs.declared.shelf.TheConstants.{FETCHED_BYTES}
 use Rattle.page_reader.specs.Page.{IsPageFault}
-use Rattle.crom_host.specs.Checking.{IsChecked, IsScriptFault, CountSays, count_line}
+use Rattle.crom_host.specs.Checking.{IsChecked, CountSays, count_line}
+use Rattle.crom_host.specs.Loading.{IsScriptFault}
 use Rattle.crom_host.proofs.Checks.{fault_checked, fault_rule, fault_script, fault_complete, fault_ends, line_checked, line_causes, line_complete, line_ends}
 use Rattle.crom_host.proofs.check.check.Goals as goal
 
@@ -45,29 +46,29 @@ returns-in-Ok-clause-complete g c page f count checked calm_shelf calm_output =
 -- ---- the page or a script is none
 
 pub returns-clause-ends : goal.returns-clause-ends
-returns-clause-ends g c = rw c.status_of.ensures (fault_ends c.in-Err-count_scripts.fault c.as_slice.result.now c.in-Err-count_scripts.ensures.says)
+returns-clause-ends g c = rw c.of_load.ensures (fault_ends c.in-Err-count_scripts.fault c.as_slice.result.now c.in-Err-count_scripts.ensures.says)
 
 pub returns-clause-checked : goal.returns-clause-checked
 returns-clause-checked g c page old f o =
     let got = rw c.in-Ok-Bytes.field-0-is at c.in-Ok-Bytes.ensures.bytes in
     let text : c.as_slice.result.now ≡ take FETCHED_BYTES page = c.as_slice.ensures.value ∙ got page f in
     let says = subst (λ (z : List ℕ). CountSays (Err c.in-Err-count_scripts.fault) z) text c.in-Err-count_scripts.ensures.says in
-    rw c.status_of.ensures ([], o ∙ ap Some (sym (append-nil old)), fault_checked c.in-Err-count_scripts.fault (take FETCHED_BYTES page) says)
+    rw c.of_load.ensures ([], o ∙ ap Some (sym (append-nil old)), fault_checked c.in-Err-count_scripts.fault (take FETCHED_BYTES page) says)
 
 pub returns-clause-refused : goal.returns-clause-refused
 returns-clause-refused g c page f number at fault =
     let got = rw c.in-Ok-Bytes.field-0-is at c.in-Ok-Bytes.ensures.bytes in
     let text : c.as_slice.result.now ≡ take FETCHED_BYTES page = c.as_slice.ensures.value ∙ got page f in
-    rw c.status_of.ensures (fault_rule c.in-Err-count_scripts.fault number at (c.in-Err-count_scripts.ensures.only_rule number at (subst (λ (z : List ℕ). IsPageFault z number at) (sym text) fault)))
+    rw c.of_load.ensures (fault_rule ℕ c.in-Err-count_scripts.fault number at (c.in-Err-count_scripts.ensures.only_rule number at (subst (λ (z : List ℕ). IsPageFault z number at) (sym text) fault)))
 
 pub returns-clause-refused_script : goal.returns-clause-refused_script
 returns-clause-refused_script g c page f index given shows =
     let got = rw c.in-Ok-Bytes.field-0-is at c.in-Ok-Bytes.ensures.bytes in
     let text : c.as_slice.result.now ≡ take FETCHED_BYTES page = c.as_slice.ensures.value ∙ got page f in
-    rw c.status_of.ensures (fault_script c.in-Err-count_scripts.fault index given (c.in-Err-count_scripts.ensures.only_script index given (subst (λ (z : List ℕ). IsScriptFault z index given) (sym text) shows)))
+    rw c.of_load.ensures (fault_script ℕ c.in-Err-count_scripts.fault index given (c.in-Err-count_scripts.ensures.only_script index given (subst (λ (z : List ℕ). IsScriptFault z index given) (sym text) shows)))
 
 pub returns-clause-complete : goal.returns-clause-complete
 returns-clause-complete g c page f count checked calm_shelf calm_output =
     let got = rw c.in-Ok-Bytes.field-0-is at c.in-Ok-Bytes.ensures.bytes in
     let text : c.as_slice.result.now ≡ take FETCHED_BYTES page = c.as_slice.ensures.value ∙ got page f in
-    rw c.status_of.ensures (fault_complete c.in-Err-count_scripts.fault count (c.in-Err-count_scripts.ensures.only count (subst (λ (z : List ℕ). IsChecked z count) (sym text) checked)))
+    rw c.of_load.ensures (fault_complete c.in-Err-count_scripts.fault count (c.in-Err-count_scripts.ensures.only count (subst (λ (z : List ℕ). IsChecked z count) (sym text) checked)))

@@ -3,6 +3,7 @@ use Rattle.cell_places.proofs.Runs.{Rooted-refl}
 use Rattle.page_reader.specs.NodeTrees.{trees_of}
 use Rattle.page_reader.proofs.Laws.{one_page}
 use Rattle.page_reader.proofs.PagePlanted.{can_root, read_is, read_sound, read_sums}
+use Rattle.page_reader.proofs.ScriptTexts.{scripts_are_texts}
 use Rattle.page_reader.proofs.page.read_page.Goals as goal
 
 pub returns-in_err-page-clause-only : goal.returns-in_err-page-clause-only
@@ -32,6 +33,9 @@ plant-requires-clause-once g c =
 pub returns-clause-page : goal.returns-clause-page
 returns-clause-page g c =
     read_is c.requires.sound.0 (g.C.Cells.seen c.args.cells.now) (g.C.Cells.seen c.plant.new.cells) c.args.bytes.now (trees_of (c.in_ok-page.page.root ∷ [])) c.in_ok-page.page.scripts.items c.requires.sound.1 c.requires.empty c.in_ok-page.ensures.found c.in_ok-plant.ensures.acts
+
+pub returns-clause-texts : goal.returns-clause-texts
+returns-clause-texts g c = scripts_are_texts c.args.bytes.now (trees_of (c.in_ok-page.page.root ∷ [])) c.in_ok-page.page.scripts.items c.in_ok-page.ensures.found
 
 pub returns-clause-sound : goal.returns-clause-sound
 returns-clause-sound g c codes sound =

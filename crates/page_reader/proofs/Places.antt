@@ -20,10 +20,10 @@ pub record IsAt (bytes : List ℕ) (n : ℕ) (cs : List ℕ) : Type 0 where
   pub spelled : drop n bytes ≡ encode_utf8_all cs
 
 -- all of a text
-pub at_front : (bytes : List ℕ) → IsUtf8 bytes → IsAt bytes 0 (chars bytes)
-at_front bytes u = record { within = omega arith; utf8 = u; spelled = sym (encodes-chars bytes u) }
+pub at_start : (bytes : List ℕ) → IsUtf8 bytes → IsAt bytes 0 (chars bytes)
+at_start bytes u = record { within = omega arith; utf8 = u; spelled = sym (encodes-chars bytes u) }
 
--- behind its first character
+-- after its first character
 pub at_next : (bytes : List ℕ) (n c : ℕ) (cs : List ℕ) → IsAt bytes n (c ∷ cs) → IsAt bytes (n + len_utf8 c) cs
 at_next bytes n c cs a =
     let past : drop (n + len_utf8 c) bytes ≡ encode_utf8_all cs = drop_past_char bytes (encode_utf8_all cs) n c a.spelled in
@@ -35,7 +35,7 @@ at_next bytes n c cs a =
       spelled = past;
     }
 
--- behind some characters
+-- after some characters
 pub at_past : (bytes : List ℕ) (n : ℕ) (cs ds : List ℕ) → IsAt bytes n (cs ++ ds) → IsAt bytes (n + bytes_of cs) ds
 at_past bytes n [] ds a = subst (λ m. IsAt bytes m ds) (omega arith) a
 at_past bytes n (c ∷ cs) ds a = subst (λ m. IsAt bytes m ds) (omega arith) (at_past bytes (n + len_utf8 c) cs ds (at_next bytes n c (cs ++ ds) a))
@@ -49,7 +49,7 @@ pub bytes_push : (cs : List ℕ) (c : ℕ) → bytes_of (cs ++ c ∷ []) ≡ byt
 bytes_push [] c = omega arith
 bytes_push (d ∷ cs) c = omega (arith, bytes_push cs c)
 
--- the bytes of characters and of others behind them
+-- the bytes of characters and of others after them
 pub bytes_append : (cs ds : List ℕ) → bytes_of (cs ++ ds) ≡ bytes_of cs + bytes_of ds
 bytes_append [] ds = omega arith
 bytes_append (c ∷ cs) ds = omega (arith, bytes_append cs ds)
@@ -64,17 +64,17 @@ pub record Begins (bytes : List ℕ) (n : ℕ) (ts : List Char) : Type 0 where
 abbrev pub IsRest : List ℕ → List Char → Type 0
 IsRest bytes ts = (ts ≡ []) ⊎ ((n : ℕ) × Begins bytes n ts)
 
--- Behind a token are the characters behind the first, or no more.
+-- After a token come the characters after the first, or none.
 begins_next : (bytes : List ℕ) (n : ℕ) (t : Char) (ts : List Char) (codes : List ℕ) → IsAt bytes n codes → t ∷ ts ≡ placed n codes → IsRest bytes ts
 begins_next bytes n t ts [] a e = inl cc
 begins_next bytes n t ts (c ∷ cs) a e = inr (n + len_utf8 c, record { codes = cs; stands = at_next bytes n c cs a; tokens = cc })
 
--- behind the first of them
+-- after the first of them
 pub rest_tail : (bytes : List ℕ) (t : Char) (ts : List Char) → IsRest bytes (t ∷ ts) → IsRest bytes ts
 rest_tail bytes t ts (inl e) = absurd cc
 rest_tail bytes t ts (inr (n, b)) = begins_next bytes n t ts b.codes b.stands b.tokens
 
--- what is known of a character that was read at a byte
+-- a character that was read at a byte
 pub record IsRead (bytes : List ℕ) (n : ℕ) (codes : List ℕ) (t : Char) (ts : List Char) : Type 0 where
   pub code : ℕ
   pub more : List ℕ
@@ -82,7 +82,7 @@ pub record IsRead (bytes : List ℕ) (n : ℕ) (codes : List ℕ) (t : Char) (ts
   pub is_code : t.code ≡ code
   pub here : t.at ≡ n
   pub past : t.past ≡ n + len_utf8 code
-  pub behind : ts ≡ placed (n + len_utf8 code) more
+  pub after : ts ≡ placed (n + len_utf8 code) more
 
 -- Of the characters from a byte on the first was read, which isn't the end.
 pub read_one : (bytes : List ℕ) (n : ℕ) (codes : List ℕ) (t : Char) (ts : List Char) → t ∷ ts ≡ placed n codes → is_end t.code ≡ false → IsRead bytes n codes t ts
@@ -99,13 +99,13 @@ read_one bytes n (c ∷ cs) t ts e h =
       is_code = ap (λ (x : Char). x.code) same;
       here = ap (λ (x : Char). x.at) same;
       past = ap (λ (x : Char). x.past) same;
-      behind = cc;
+      after = cc;
     }
 
--- Behind such a character the tokens are those from its end on.
+-- After such a character the tokens are those from its end on.
 pub begins_past : (bytes : List ℕ) (t : Char) (ts : List Char) → IsRest bytes (t ∷ ts) → is_end t.code ≡ false → Begins bytes t.past ts
 begins_past bytes t ts (inl e) h = absurd cc
 begins_past bytes t ts (inr (n, b)) h =
     let r : IsRead bytes n b.codes t ts = read_one bytes n b.codes t ts b.tokens h in
     subst (λ m. Begins bytes m ts) (sym r.past)
-    (record { codes = r.more; stands = at_next bytes n r.code r.more (subst (λ l. IsAt bytes n l) r.split b.stands); tokens = r.behind })
+    (record { codes = r.more; stands = at_next bytes n r.code r.more (subst (λ l. IsAt bytes n l) r.split b.stands); tokens = r.after })

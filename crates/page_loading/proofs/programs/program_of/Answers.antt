@@ -3,9 +3,9 @@ use Rattle.std.specs.Str.{chars}
 use Rattle.js_tree.specs.declared.code.Program.{Program}
 use Rattle.js_parser.specs.declared.fault.ScriptFault.{ScriptFault}
 use Rattle.js_parser.specs.Scripts.{IsScript, ScriptFaultAt}
-use Rattle.page_scripts.specs.Programs.{HasProgram, ShowsFault}
-use Rattle.page_scripts.proofs.Shown.{judged_script}
-use Rattle.page_scripts.proofs.programs.program_of.Goals as goal
+use Rattle.page_loading.specs.Programs.{HasProgram, ShowsFault}
+use Rattle.page_loading.proofs.Shown.{judged_script}
+use Rattle.page_loading.proofs.programs.program_of.Goals as goal
 
 -- the fault that bytes show
 abbrev fault_of : List ℕ → ScriptFault → Type 0
@@ -30,5 +30,5 @@ returns-in-Err-clause-only c program has =
 pub returns-in-Err-clause-only_fault : goal.returns-in-Err-clause-only_fault
 returns-in-Err-clause-only_fault c fault h =
     rw c.of_script.ensures
-    (judged_script {A = Program} {B = Program} (λ _. ⊥) (λ given. given ≡ fault) (λ _. ⊥) (λ _ given. given ≡ fault) c.args.script.index c.in-Err.fault (λ given e. e)
+    (judged_script {A = Program} {B = Program} (λ _. ⊥) (λ given. given ≡ fault) (λ _. ⊥) (λ number given. (number ≡ c.args.script.index) × (given ≡ fault)) c.args.script.index c.in-Err.fault (λ given e. (refl, e))
     (c.in-Err.ensures.only_fault fault (subst (λ (bytes : List ℕ). fault_of bytes fault) (sym c.range.ensures.value) h)))

@@ -1,13 +1,10 @@
 -- The programs of a page's scripts (ECMA-262 5.1, section 14; where they stand in a page is this project's own page form).
-use Rattle.std.specs.Prelude.{◌≡◌, ◌⊎◌, ℕ, List, [], ◌∷◌, length, slice_range, Result, Ok, Err}
+use Rattle.std.specs.Prelude.{◌≡◌, ◌⊎◌, ℕ, List, [], ◌∷◌, length, slice_range}
 use Rattle.std.specs.Str.{chars}
 use Rattle.page_reader.specs.declared.page.ScriptText.{ScriptText}
 use Rattle.js_tree.specs.declared.code.Program.{Program}
 use Rattle.js_parser.specs.declared.fault.ScriptFault.{ScriptFault}
 use Rattle.js_parser.specs.Scripts.{IsScript, ScriptFaultAt}
-use Rattle.js_parser.specs.declared.fault.ScriptFault.TheVariants as script
-use Rattle.page_scripts.specs.declared.fault.ScriptsFault.{ScriptsFault}
-use Rattle.page_scripts.specs.declared.fault.ScriptsFault.TheVariants.{Script, NoMemory}
 
 -- the bytes of a script of a page
 abbrev pub content : List ℕ → ScriptText → List ℕ
@@ -17,7 +14,7 @@ content page script = slice_range page script.at script.end
 abbrev pub HasProgram : (page : List ℕ) → ScriptText → Program → Type 0
 HasProgram page script program = IsScript (chars (content page script)) program
 
--- The script is none, and shows this fault.
+-- The script is not a program, and shows this fault.
 abbrev pub ShowsFault : (page : List ℕ) → ScriptText → ScriptFault → Type 0
 ShowsFault page script fault = ScriptFaultAt (length (content page script)) (chars (content page script)) fault
 
@@ -28,20 +25,9 @@ ArePrograms page [] (program ∷ programs) = ⊥
 ArePrograms page (script ∷ scripts) [] = ⊥
 ArePrograms page (script ∷ scripts) (program ∷ programs) = HasProgram page script program × ArePrograms page scripts programs
 
--- The first of the scripts that is none has this number and shows this fault; each before it has a program.
+-- The first of the scripts that is not a program has this number and shows this fault; each before it has a program.
 abbrev pub FirstFault : (page : List ℕ) → List ScriptText → (index : ℕ) → ScriptFault → Type 0
 FirstFault page [] index fault = ⊥
 FirstFault page (script ∷ scripts) index fault =
     ((index ≡ script.index) × ShowsFault page script fault)
     ⊎ ((program : Program) × HasProgram page script program × FirstFault page scripts index fault)
-
--- the fault of a page's scripts that a script's is
-abbrev pub of_script : (index : ℕ) → ScriptFault → ScriptsFault
-of_script index script.NoMemory = NoMemory
-of_script index fault = Script index fault
-
--- What is said of scripts is so, unless memory was refused.
-abbrev pub Judged : {A : Type 0} → (A → Type 0) → (ℕ → ScriptFault → Type 0) → Result A ScriptsFault → Type 0
-Judged Are Shows (Ok programs) = Are programs
-Judged Are Shows (Err (Script index fault)) = Shows index fault
-Judged Are Shows (Err NoMemory) = Unit {0}

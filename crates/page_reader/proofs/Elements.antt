@@ -20,9 +20,9 @@ use Rattle.page_reader.specs.Names.{name, is_script}
 use Rattle.page_reader.specs.Tags.{tag_end, start_tag, end_tag}
 use Rattle.page_reader.specs.Raw.{raw}
 use Rattle.page_reader.specs.Content.{Found, Content, Inside, Ended, content_goes, Inner, markup, piece, ended, full_body, with_script, raw_body, void_body, body, element, opened}
-use Rattle.page_scripts.proofs.Leaves.{Leaves, leaves_more, leaves_each, kept, cond_leaves}
-use Rattle.page_scripts.proofs.Places.{Begins, IsRest, rest_tail, begins_past}
-use Rattle.page_scripts.proofs.RawScripts.{IsSpan, gt_stands, IsRaw, raw_leaves}
+use Rattle.page_reader.proofs.Leaves.{Leaves, leaves_more, leaves_each, kept, cond_leaves}
+use Rattle.page_reader.proofs.Places.{Begins, IsRest, rest_tail, begins_past}
+use Rattle.page_reader.proofs.RawScripts.{IsSpan, gt_stands, IsRaw, raw_leaves}
 
 module _ (bytes : List ℕ) where
   -- These scripts begin and end where characters of the page do.
@@ -37,30 +37,30 @@ module _ (bytes : List ℕ) where
   pub each : {A : Type 0} (g : R A) (ts : List Char) (P : A → List Char → Type 0) → IsRest bytes ts → ((v : A) (s : List Char) → IsRest bytes s → P v s) → Leaves g ts P
   each g ts P i k = leaves_each (IsRest bytes) (rest_tail bytes) g ts P i k
 
-  -- behind a token
-  pub behind : (t : Char) (ts rest : List Char) → IsRest bytes ts → ts ≡ t ∷ rest → IsRest bytes rest
-  behind t ts rest i e = rest_tail bytes t rest (subst (λ l. IsRest bytes l) e i)
+  -- after a token
+  pub after_token : (t : Char) (ts rest : List Char) → IsRest bytes ts → ts ≡ t ∷ rest → IsRest bytes rest
+  after_token t ts rest i e = rest_tail bytes t rest (subst (λ l. IsRest bytes l) e i)
 
   -- ---- start tags
 
-  -- The end of a start tag is known to leave the byte behind its `>` and what stands from there on.
+  -- The end of a start tag leaves the byte after its `>` and what stands from there on.
   tag_end_leaves : (tag_at : ℕ) (tag : List ℕ) (ts : List Char) → IsRest bytes ts → Leaves (tag_end tag_at tag) ts (λ start rest. Begins bytes start rest)
   tag_end_leaves tag_at tag ts i = (
     λ t rest e q. begins_past bytes t rest (subst (λ l. IsRest bytes l) e i) (gt_stands t.code q),
-    (λ t rest e q. (λ t' rest' e' q'. begins_past bytes t' rest' (subst (λ l. IsRest bytes l) e' (behind t ts rest i e)) (gt_stands t'.code q'), tt), tt),
+    (λ t rest e q. (λ t' rest' e' q'. begins_past bytes t' rest' (subst (λ l. IsRest bytes l) e' (after_token t ts rest i e)) (gt_stands t'.code q'), tt), tt),
   )
 
-  -- what stands behind the attributes of a start tag
+  -- what stands after the attributes of a start tag
   abbrev tag_ended : ℕ → List ℕ → List Attribute → R Started
   tag_ended tag_at tag attributes = do
     start ← tag_end tag_at tag
     done (record { attributes = attributes; start = start })
 
-  -- what stands behind its name
+  -- what stands after its name
   abbrev attributes_listed : ℕ → List ℕ → R Started
   attributes_listed tag_at tag = attributes tag_at tag >>= tag_ended tag_at tag
 
-  -- A start tag is known to end where a character of the page does.
+  -- A start tag ends where a character of the page does.
   start_tag_leaves : (tag_at : ℕ) (tag : List ℕ) (ts : List Char) → IsRest bytes ts → Leaves (start_tag tag_at tag) ts (λ started rest. Begins bytes started.start rest)
   unfolding start_tag
   start_tag_leaves tag_at tag ts i =
@@ -95,7 +95,7 @@ module _ (bytes : List ℕ) where
   abbrev IsFineContent : Content → List Char → Type 0
   IsFineContent content rest = IsRest bytes rest × AreSpans (scripts_in content)
 
-  -- what is known of the elements one level below
+  -- the elements one level below leave fine scripts
   abbrev AreFine : Inner → Type 0
   AreFine inner = (at : ℕ) (scripts : List Slice) (ts : List Char) → IsRest bytes ts → AreSpans scripts → Leaves (inner at scripts) ts IsFine
 
@@ -112,10 +112,10 @@ module _ (bytes : List ℕ) where
   -- So does a piece of content,
   piece_leaves : (inner : Inner) (tag_at : ℕ) (tag : List ℕ) (content : Content) (ts : List Char) → AreFine inner → IsFineContent content ts → Leaves (piece inner tag_at tag content) ts IsFineContent
   piece_leaves inner tag_at tag (Inside children units scripts) ts below h = (
-    λ t rest e q. (behind t ts rest h.0 e, h.1),
+    λ t rest e q. (after_token t ts rest h.0 e, h.1),
     (
-      λ t rest e q. each (reference tag_at t.at) rest (λ _ s. IsRest bytes s × AreSpans scripts) (behind t ts rest h.0 e) (λ _ s j. (j, h.1)),
-      λ t rest e q. markup_leaves inner tag t.at children units scripts rest below (behind t ts rest h.0 e) h.1,
+      λ t rest e q. each (reference tag_at t.at) rest (λ _ s. IsRest bytes s × AreSpans scripts) (after_token t ts rest h.0 e) (λ _ s j. (j, h.1)),
+      λ t rest e q. markup_leaves inner tag t.at children units scripts rest below (after_token t ts rest h.0 e) h.1,
     ),
   )
   piece_leaves inner tag_at tag (Ended children scripts) ts below h = tt
@@ -132,7 +132,7 @@ module _ (bytes : List ℕ) where
       (λ content s h. piece_leaves inner tag_at tag content s below h)
       (λ content s h. ended_leaves tag_at tag started.attributes content s h)
 
-  -- What stands behind a start tag leaves fine scripts.
+  -- What stands after a start tag leaves fine scripts.
   body_leaves : (inner : Inner) (tag_at : ℕ) (tag : List ℕ) (started : Started) (scripts : List Slice) (ts : List Char) → AreFine inner → Begins bytes started.start ts → AreSpans scripts → Leaves (body inner tag_at tag started scripts) ts IsFine
   body_leaves inner tag_at tag started scripts ts below b fine =
       cond_leaves (is_void tag) (void_body tag started scripts) (cond (is_raw tag) (raw_body tag_at tag started scripts) (full_body inner tag_at tag started scripts)) ts IsFine
@@ -141,7 +141,7 @@ module _ (bytes : List ℕ) where
       (raw_body_leaves tag_at tag started scripts ts b fine)
       (full_body_leaves inner tag_at tag started scripts ts below (inr (started.start, b)) fine))
 
-  -- what stands behind an element's name
+  -- what stands after an element's name
   abbrev started_body : Inner → ℕ → List ℕ → List Slice → R Found
   started_body inner tag_at tag scripts = do
     started ← start_tag tag_at tag
@@ -159,4 +159,4 @@ module _ (bytes : List ℕ) where
   pub opened_leaves : (room at : ℕ) (scripts : List Slice) (ts : List Char) → IsRest bytes ts → AreSpans scripts → Leaves (opened room at scripts) ts IsFine
   unfolding opened
   opened_leaves zero at scripts ts i fine = tt
-  opened_leaves (suc room) at scripts ts i fine = λ t rest e q. element_leaves (opened room) at scripts t.code rest (λ a ss us j g. opened_leaves room a ss us j g) (behind t ts rest i e) fine
+  opened_leaves (suc room) at scripts ts i fine = λ t rest e q. element_leaves (opened room) at scripts t.code rest (λ a ss us j g. opened_leaves room a ss us j g) (after_token t ts rest i e) fine

@@ -1,8 +1,8 @@
 use Rattle.std.proofs.Common.{drop}
 use Rattle.std.specs.Prelude.{All}
 use Rattle.js_tree.specs.Valid.{IsValid}
-use Rattle.page_scripts.proofs.Reaching.{Reaches}
-use Rattle.page_scripts.proofs.programs.programs_of.Given as goal
+use Rattle.page_loading.proofs.Reaching.{Reaches}
+use Rattle.page_loading.proofs.programs.programs_of.Given as goal
 
 -- the scripts so far have just these programs
 abbrev pub invariant-loop-script : goal.invariant-loop-script

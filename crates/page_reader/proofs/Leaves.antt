@@ -1,4 +1,4 @@
--- What a rule leaves: a property of each value that it derives and of the tokens behind it, told from its parts and the
+-- What a rule leaves: a property of each value that it derives and of the tokens after it, stated from its parts and the
 -- tokens that it begins at.
 use Rattle.std.proofs.Common.{◌≡◌, ℕ, zero, suc, Bool, true, false, cond, inl, inr, List, ◌∷◌, ◌++◌, subst, sym, ap, ◌∙◌, append_assoc}
 use Rattle.grammar.specs.Grammar.{Rule, token, before, done, refused, then, or, again, first, Turns, Derives}
@@ -9,7 +9,7 @@ abbrev pub TurnsLeave : {T A : Type 0} → (A → List T → (A → List T → T
 TurnsLeave G zero x ts P = P x ts
 TurnsLeave G (suc n) x ts P = G x ts (λ u s. TurnsLeave G n u s P)
 
--- Each value that the rule can derive from a front of these tokens has the property together with the tokens behind it.
+-- Each value that the rule can derive from a prefix of these tokens has the property together with the tokens after it.
 abbrev pub Leaves : {T K : Type 0} {A : Type 0} → Rule T K A → List T → (A → List T → Type 0) → Type 0
 Leaves {T} (token p) ts P = (t : T) (rest : List T) → ts ≡ t ∷ rest → p t ≡ true → P t rest
 Leaves (before p) ts P = P tt ts
@@ -20,8 +20,8 @@ Leaves (or a b) ts P = Leaves a ts P × Leaves b ts P
 Leaves (again p f x) ts P = (n : ℕ) → TurnsLeave (λ y s R. Leaves (f y) s R) n x ts P
 
 -- A list of two parts and a rest is the first part and the other with the rest.
-behind_both : {T : Type 0} (ys zs xs rest : List T) → xs ≡ ys ++ zs → xs ++ rest ≡ ys ++ (zs ++ rest)
-behind_both ys zs xs rest e = ap (λ l. l ++ rest) e ∙ append_assoc ys zs rest
+append_rest : {T : Type 0} (ys zs xs rest : List T) → xs ≡ ys ++ zs → xs ++ rest ≡ ys ++ (zs ++ rest)
+append_rest ys zs xs rest e = ap (λ l. l ++ rest) e ∙ append_assoc ys zs rest
 
 -- n turns leave whatever follows from what they leave, where the same is so of one turn.
 turns_more : {T A : Type 0} (G : A → List T → (A → List T → Type 0) → Type 0) (P Q : A → List T → Type 0) → ((y : A) (s : List T) (R S : A → List T → Type 0) → ((v : A) (r : List T) → R v r → S v r) → G y s R → G y s S) → ((v : A) (r : List T) → P v r → Q v r) → (n : ℕ) (x : A) (ts : List T) → TurnsLeave G n x ts P → TurnsLeave G n x ts Q
@@ -35,7 +35,7 @@ module _ {T K : Type 0} where
   turns_leave {A} p f P end one (suc n) x xs v rest (ys, zs, u, d, s, r, e) h =
       turns_leave p f P end one n u zs v rest r
       (one x ys u (zs ++ rest) (λ w s. TurnsLeave (λ y r R. Leaves (f y) r R) n w s P) (subst (λ t. Derives (f x) ys u t) (sym (first_append zs rest end)) d)
-      (subst (λ s. Leaves (f x) s (λ w r. TurnsLeave (λ y k R. Leaves (f y) k R) n w r P)) (behind_both ys zs xs rest e) h))
+      (subst (λ s. Leaves (f x) s (λ w r. TurnsLeave (λ y k R. Leaves (f y) k R) n w r P)) (append_rest ys zs xs rest e) h))
 
   -- Each value that a rule derives has what the rule leaves.
   pub leaves : {A : Type 0} (g : Rule T K A) (xs : List T) (v : A) (rest : List T) (end : T) (P : A → List T → Type 0) → Derives g xs v (first rest end) → Leaves g (xs ++ rest) P → P v rest
@@ -46,7 +46,7 @@ module _ {T K : Type 0} where
   leaves (then a f) xs v rest end P (ys, zs, u, d, d', e) h =
       leaves (f u) zs v rest end P d'
       (leaves a ys u (zs ++ rest) end (λ w s. Leaves (f w) s P) (subst (λ t. Derives a ys u t) (sym (first_append zs rest end)) d)
-      (subst (λ s. Leaves a s (λ w r. Leaves (f w) r P)) (behind_both ys zs xs rest e) h))
+      (subst (λ s. Leaves a s (λ w r. Leaves (f w) r P)) (append_rest ys zs xs rest e) h))
   leaves (or a b) xs v rest end P (inl d) h = leaves a xs v rest end P d h.0
   leaves (or a b) xs v rest end P (inr d) h = leaves b xs v rest end P d h.1
   leaves (again p f x) xs v rest end P (n, d) h = turns_leave p f P end (λ y ys u r R q k. leaves (f y) ys u r end R q k) n x xs v rest d (h n)
@@ -75,7 +75,7 @@ module _ {T K : Type 0} where
   cond_leaves true g h ts P d e = d
   cond_leaves false g h ts P d e = e
 
-  -- one rule behind another, by what the first leaves
+  -- one rule after another, by what the first leaves
   pub both_leave : {A B : Type 0} (a : Rule T K A) (f : A → Rule T K B) (ts : List T) (Q : A → List T → Type 0) (P : B → List T → Type 0) → Leaves a ts Q → ((u : A) (s : List T) → Q u s → Leaves (f u) s P) → Leaves (then a f) ts P
   both_leave a f ts Q P h k = leaves_more a ts Q (λ u s. Leaves (f u) s P) k h
 

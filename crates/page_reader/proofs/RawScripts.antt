@@ -12,10 +12,10 @@ use Rattle.page_reader.specs.declared.node.RawContent.{RawContent}
 use Rattle.page_reader.specs.Classes.{is_gt}
 use Rattle.page_reader.specs.Names.{is_script}
 use Rattle.page_reader.specs.Raw.{end_tag_at, raw_goes, raw_character, before_end_tag, raw}
-use Rattle.page_scripts.proofs.Leaves.{Leaves, kept}
-use Rattle.page_scripts.proofs.Places.{bytes_of, bytes_push, bytes_append, IsAt, at_past, at_boundary, Begins, IsRest, IsRead, read_one, begins_past}
-use Rattle.page_scripts.proofs.Units.{units_of, units_push, IsAsciiFrom, IsCut, cut}
-use Rattle.page_scripts.proofs.EndTags.{EndsInAscii, ends_in_ascii}
+use Rattle.page_reader.proofs.Leaves.{Leaves, kept}
+use Rattle.page_reader.proofs.Places.{bytes_of, bytes_push, bytes_append, IsAt, at_past, at_boundary, Begins, IsRest, IsRead, read_one, begins_past}
+use Rattle.page_reader.proofs.Units.{units_of, units_push, IsAsciiFrom, IsCut, cut}
+use Rattle.page_reader.proofs.EndTags.{EndsInAscii, ends_in_ascii}
 
 -- From the one byte to before the other the bytes are characters.
 pub record IsSpan (bytes : List ℕ) (start end : ℕ) : Type 0 where
@@ -32,7 +32,7 @@ not_true : (b : Bool) → not b ≡ true → b ≡ false
 not_true true e = absurd cc
 not_true false e = refl
 
--- Some characters stand from this byte on, their units are these, and behind them are the tokens.
+-- Some characters stand from this byte on, their units are these, and after them come the tokens.
 pub record IsRun (bytes : List ℕ) (start : ℕ) (units : List ℕ) (ts : List Char) : Type 0 where
   pub done : List ℕ
   pub codes : List ℕ
@@ -59,7 +59,7 @@ run_more bytes start units t ts rest r e h =
       codes = one.more;
       stands = subst (λ l. IsAt bytes start l) (ap (λ (l : List ℕ). r.done ++ l) one.split ∙ sym (append_assoc r.done (one.code ∷ []) one.more)) r.stands;
       coded = ap (λ (l : List ℕ). l ++ encode_utf16 t.code) r.coded ∙ ap (λ (c : ℕ). units_of r.done ++ encode_utf16 c) one.is_code ∙ sym (units_push r.done one.code);
-      tokens = one.behind ∙ ap (λ (m : ℕ). placed m one.more) (omega (arith, bytes_push r.done one.code));
+      tokens = one.after ∙ ap (λ (m : ℕ). placed m one.more) (omega (arith, bytes_push r.done one.code));
     }
 
 -- ---- where the content ends
@@ -74,17 +74,17 @@ end_cut bytes start tag units ts at s r e None h = record {
 end_cut bytes start tag units ts at s r e (Some n) h =
     let a : EndsInAscii n units = ends_in_ascii tag units n s h in
     let k : IsCut r.done n = cut r.done n (subst (λ l. n ≤ length l) r.coded a.within) (subst (λ l. IsAsciiFrom n l) r.coded a.ascii) in
-    let stands : IsAt bytes start (k.front ++ (k.back ++ r.codes)) = subst (λ l. IsAt bytes start l) (ap (λ (l : List ℕ). l ++ r.codes) k.split ∙ append_assoc k.front k.back r.codes) r.stands in
-    let parts : bytes_of r.done ≡ bytes_of k.front + bytes_of k.back = ap (λ (l : List ℕ). bytes_of l) k.split ∙ bytes_append k.front k.back in
-    let long : n + bytes_of k.back ≡ length units = k.long ∙ sym (ap (λ (l : List ℕ). length l) r.coded) in
-    let place : start + bytes_of k.front ≡ at - (length units - n) = omega (arith, e, parts, long) in
+    let stands : IsAt bytes start (k.prefix ++ (k.suffix ++ r.codes)) = subst (λ l. IsAt bytes start l) (ap (λ (l : List ℕ). l ++ r.codes) k.split ∙ append_assoc k.prefix k.suffix r.codes) r.stands in
+    let parts : bytes_of r.done ≡ bytes_of k.prefix + bytes_of k.suffix = ap (λ (l : List ℕ). bytes_of l) k.split ∙ bytes_append k.prefix k.suffix in
+    let long : n + bytes_of k.suffix ≡ length units = k.long ∙ sym (ap (λ (l : List ℕ). length l) r.coded) in
+    let place : start + bytes_of k.prefix ≡ at - (length units - n) = omega (arith, e, parts, long) in
     record {
       ordered = omega (arith, place);
       begins = at_boundary bytes start (r.done ++ r.codes) r.stands;
-      ends = subst (λ m. IsCharBoundary bytes m) place (at_boundary bytes (start + bytes_of k.front) (k.back ++ r.codes) (at_past bytes start k.front (k.back ++ r.codes) stands));
+      ends = subst (λ m. IsCharBoundary bytes m) place (at_boundary bytes (start + bytes_of k.prefix) (k.suffix ++ r.codes) (at_past bytes start k.prefix (k.suffix ++ r.codes) stands));
     }
 
--- What raw content leaves: the tokens behind the end tag, and the content's bytes, if it is that of a script.
+-- What raw content leaves: the tokens after the end tag, and the content's bytes, if it is that of a script.
 abbrev pub IsRaw : List ℕ → ℕ → List ℕ → RawContent → List Char → Type 0
 IsRaw bytes start tag content rest = IsRest bytes rest × (is_script tag ≡ true → IsSpan bytes start content.end)
 
@@ -92,8 +92,8 @@ IsRaw bytes start tag content rest = IsRest bytes rest × (is_script tag ≡ tru
 raw_ends : (bytes : List ℕ) (start : ℕ) (tag units : List ℕ) (t : Char) (ts rest : List Char) → IsRun bytes start units ts → ts ≡ t ∷ rest → is_gt t.code ≡ true → IsRaw bytes start tag (before_end_tag units (end_tag_at tag units) t.at) rest
 raw_ends bytes start tag units t ts rest r e q =
     let one : IsRead bytes (start + bytes_of r.done) r.codes t rest = read_one bytes (start + bytes_of r.done) r.codes t rest (sym e ∙ r.tokens) (gt_stands t.code q) in
-    let behind : IsRest bytes (t ∷ rest) = subst (λ l. IsRest bytes l) e (inr (start + bytes_of r.done, record { codes = r.codes; stands = at_past bytes start r.done r.codes r.stands; tokens = r.tokens })) in
-    (inr (t.past, begins_past bytes t rest behind (gt_stands t.code q)), λ s. end_cut bytes start tag units ts t.at s r one.here (end_tag_at tag units) refl)
+    let here : IsRest bytes (t ∷ rest) = subst (λ l. IsRest bytes l) e (inr (start + bytes_of r.done, record { codes = r.codes; stands = at_past bytes start r.done r.codes r.stands; tokens = r.tokens })) in
+    (inr (t.past, begins_past bytes t rest here (gt_stands t.code q)), λ s. end_cut bytes start tag units ts t.at s r one.here (end_tag_at tag units) refl)
 
 -- Raw content that begins at a byte leaves that.
 pub raw_leaves : (bytes : List ℕ) (start tag_at : ℕ) (tag : List ℕ) (ts : List Char) → Begins bytes start ts → Leaves (raw tag_at tag) ts (IsRaw bytes start tag)

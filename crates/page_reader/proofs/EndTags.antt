@@ -8,7 +8,7 @@ use Rattle.std.proofs.lemmas.Slice.Eq.{bytes_eq-Decides}
 use Rattle.page_reader.specs.Classes.{is_white, lower, is_lt, is_slash}
 use Rattle.page_reader.specs.Names.{is_script}
 use Rattle.page_reader.specs.Raw.{trimmed, is_called, is_slash_and_name, is_end_tag, ending_at, end_tag_at}
-use Rattle.page_scripts.proofs.Units.{IsAsciiFrom}
+use Rattle.page_reader.proofs.Units.{IsAsciiFrom}
 
 -- ---- characters
 
@@ -104,12 +104,12 @@ trimmed_ascii units (suc n) k h l = go (is_white (slice_index units n)) refl (tr
 
 -- ---- the whole
 
--- The units of an end tag, from the n-th on, and those behind it are ASCII.
+-- The units of an end tag, from the n-th on, and those after it are ASCII.
 pub record EndsInAscii (n : ℕ) (units : List ℕ) : Type 0 where
   pub within : n ≤ length units
   pub ascii : IsAsciiFrom n units
 
--- Units are ASCII from n on, where a piece from n on is and all behind the piece.
+-- Units are ASCII from n on, where a piece from n on is and all after the piece.
 piece_ascii : (units : List ℕ) (n m : ℕ) → n ≤ m → IsAsciiFrom 0 (slice_range units n m) → IsAsciiFrom m units → IsAsciiFrom n units
 piece_ascii units n m le a b k h = go (cases_lt k m)
   where
@@ -121,7 +121,7 @@ piece_ascii units n m le a b k h = go (cases_lt k m)
         (subst (λ (x : ℕ). x < 128) (get_or-take (m - n) (drop n units) (k - n) 0 inside ∙ get_or-drop n units (k - n) 0) (a (k - n) (omega arith)))
     go (inr g) = b k g
 
--- Where the first m units end in an end tag, the units are ASCII from its `<` on, if those behind it are.
+-- Where the first m units end in an end tag, the units are ASCII from its `<` on, if those after it are.
 ending_ascii : (tag units : List ℕ) (m n : ℕ) → IsAsciiFrom 0 tag → m ≤ length units → IsAsciiFrom m units → ending_at tag units m ≡ Some n → EndsInAscii n units
 ending_ascii tag units m n a le b e = go (nat_le (length tag + 2) m && is_end_tag tag (slice_range units (m - (length tag + 2)) m)) refl e
   where
@@ -138,10 +138,10 @@ ending_ascii tag units m n a le b e = go (nat_le (length tag + 2) m && is_end_ta
 -- Where the units end in an end tag of a script, but for its `>`, they are ASCII from its `<` on.
 pub ends_in_ascii : (tag units : List ℕ) (n : ℕ) → is_script tag ≡ true → end_tag_at tag units ≡ Some n → EndsInAscii n units
 ends_in_ascii tag units n s e =
-    ending_ascii tag units (trimmed units (length units)) n (script_ascii tag s) (trimmed_le units (length units)) behind e
+    ending_ascii tag units (trimmed units (length units)) n (script_ascii tag s) (trimmed_le units (length units)) after e
   where
-    behind : IsAsciiFrom (trimmed units (length units)) units
-    behind k h = go (cases_lt k (length units))
+    after : IsAsciiFrom (trimmed units (length units)) units
+    after k h = go (cases_lt k (length units))
       where
         go : (k < length units) ⊎ (length units ≤ k) → get_or units k 0 < 128
         go (inl l) = trimmed_ascii units (length units) k h l

@@ -4,9 +4,9 @@ use Rattle.std.proofs.lemmas.List.{append-nil, append_assoc}
 use Rattle.page_reader.specs.declared.page.ScriptText.{ScriptText}
 use Rattle.js_tree.specs.declared.code.Program.{Program}
 use Rattle.js_parser.specs.declared.fault.ScriptFault.{ScriptFault}
-use Rattle.page_scripts.specs.Programs.{HasProgram, ShowsFault, ArePrograms, FirstFault}
+use Rattle.page_loading.specs.Programs.{HasProgram, ShowsFault, ArePrograms, FirstFault}
 
--- The scripts that are left stand behind some that have just these programs.
+-- The scripts that are left come after some that have just these programs.
 pub record Reaches (page : List ℕ) (scripts : List ScriptText) (programs : List Program) (left : List ScriptText) : Type 0 where
   pub puts : (more : List Program) → ArePrograms page left more → ArePrograms page scripts (programs ++ more)
   pub only : (all : List Program) → ArePrograms page scripts all → (more : List Program) × (all ≡ programs ++ more) × ArePrograms page left more
@@ -28,15 +28,15 @@ module _ (page : List ℕ) (scripts : List ScriptText) where
         → Reaches page scripts (programs ++ program ∷ []) left
     one_more program has same calm = record {
       puts = λ more h. subst (λ (all : List Program). ArePrograms page scripts all) (sym (append_assoc programs (program ∷ []) more)) (r.puts (program ∷ more) (has, h));
-      only = λ all h. behind all (r.only all h);
+      only = λ all h. after_this all (r.only all h);
       shows = λ index fault h. r.shows index fault (inr (program, has, h));
       none = λ index fault h. after index fault (r.none index fault h);
     }
       where
-        behind : (all : List Program) → ((more : List Program) × (all ≡ programs ++ more) × ArePrograms page (script ∷ left) more)
+        after_this : (all : List Program) → ((more : List Program) × (all ≡ programs ++ more) × ArePrograms page (script ∷ left) more)
             → (more : List Program) × (all ≡ (programs ++ program ∷ []) ++ more) × ArePrograms page left more
-        behind all ([], e, h) = absurd h
-        behind all (other ∷ more, e, h) =
+        after_this all ([], e, h) = absurd h
+        after_this all (other ∷ more, e, h) =
             (more, e ∙ ap (λ (p : Program). programs ++ p ∷ more) (sym (same other h.0)) ∙ sym (append_assoc programs (program ∷ []) more), h.1)
 
         after : (index : ℕ) (fault : ScriptFault) → FirstFault page (script ∷ left) index fault → FirstFault page left index fault

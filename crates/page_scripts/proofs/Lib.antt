@@ -1,9 +1,0 @@
-pub mod Leaves
-pub mod Places
-pub mod Units
-pub mod EndTags
-pub mod RawScripts
-pub mod Elements
-pub mod ScriptTexts
-pub mod Reaching
-pub mod Shown
