@@ -1,6 +1,6 @@
 -- A stream goes on by one request, and ends.
-use Rattle.std.proofs.Common.{◌≡◌, ◌<◌, ◌≤◌, ◌+◌, ℕ, Bool, true, false, List, [], ◌∷◌, ◌++◌, length, take, Option, Some, None, Ok, inl, inr, refl, sym, ap, subst, ◌∙◌, append_assoc, arith}
-use Rattle.std.specs.Prelude.{◌||◌}
+use Rattle.std.proofs.Common.{◌≡◌, ◌<◌, ◌≤◌, ◌+◌, ℕ, Bool, true, false, List, [], ◌∷◌, ◌++◌, length, take, Option, Some, None, Ok, Err, inl, inr, refl, sym, ap, subst, ◌∙◌, append_assoc, arith}
+use Rattle.std.specs.Prelude.{◌||◌, Result}
 use Rattle.std.proofs.lemmas.List.{append-nil}
 use Rattle.std.proofs.lemmas.Grind.{flat_map-append}
 use Rattle.page_units.specs.Outside.{before, after}
@@ -9,14 +9,20 @@ use Rattle.http_wire.specs.declared.wire.Incoming.{Incoming}
 use Rattle.http_wire.specs.declared.wire.Next.TheVariants as next
 use Rattle.http_wire.specs.Messages.{Message}
 use Rattle.http_wire.specs.Outcomes.{IsUnfinished}
+use Rattle.http_wire.specs.Asked.TheVariants as a
+use Rattle.http_wire.specs.Asked.{Asked}
+use Rattle.http_wire.specs.Refusal.{Refusal}
+use Rattle.http_wire.specs.Refusals.{ends_connection}
+use Rattle.http_wire.specs.Incoming as came
+use Rattle.http_wire.specs.Incoming.{Comes}
 use Rattle.http_wire.specs.Requests.{EndsAs, RequestsOf, ended, truncated}
 use Rattle.http_wire.specs.Requests as w
 use Rattle.http_wire.specs.Wired.{NextStream, NextWhole}
-use Rattle.wire_replies.specs.ReplyBytes.{reply_bytes}
-use Rattle.wire_replies.specs.declared.reply.Reply as written
+use Rattle.http_wire.specs.ReplyBytes.{reply_bytes}
+use Rattle.http_wire.specs.Reply as written
 use Rattle.crom_host.specs.Replying.{Reply, bytes_of, IsOf}
 use Rattle.crom_host.specs.Plain as p
-use Rattle.crom_host.specs.Plain.{Settings, PlainHost, Answers, Answered, ends_behind, ending_of, ending_behind, is_halt, Sent, bytes_sent, PlainRun, Ending, at_end, closed, halted_so, cut_off, at_bound, paused}
+use Rattle.crom_host.specs.Plain.{Settings, PlainHost, Answers, Answered, ending_of, ending_behind, is_halt, Sent, bytes_sent, PlainRun, Ending, at_end, closed, halted_so, cut_off, at_bound, paused}
 use Rattle.crom_host.specs.Stream.{RunsTo, GivesUp, StopsWriting, StopsReading}
 
 -- ---- a run after what was answered
@@ -123,9 +129,20 @@ or_true : (a b : Bool) → b ≡ true → a || b ≡ true
 or_true true b e = refl
 or_true false b e = e
 
--- behind a `/halt` the connection ends
-pub halt_ends : (i : Incoming) → is_halt i.asked ≡ true → ends_behind i ≡ true
-halt_ends i e = or_true i.close (is_halt i.asked) e
+halt_ends : (asked : Result Asked Refusal) → is_halt asked ≡ true → ends_connection asked ≡ true
+halt_ends (Ok a.Halt) e = refl
+halt_ends (Ok a.Dom) e = absurd (cc)
+halt_ends (Ok a.Load) e = absurd (cc)
+halt_ends (Ok (a.Node id)) e = absurd (cc)
+halt_ends (Ok a.Stats) e = absurd (cc)
+halt_ends (Ok (a.Event event)) e = absurd (cc)
+halt_ends (Ok (a.Tick ms)) e = absurd (cc)
+halt_ends (Err r) e = absurd (cc)
+
+-- after a `/halt` the connection ends
+halt_closes : (bytes rest : List ℕ) (i : Incoming) → Comes bytes i rest → is_halt i.asked ≡ true → i.close ≡ true
+halt_closes _ _ _ (came.request bytes rest m x) e = or_true m.close _ (halt_ends _ e)
+halt_closes _ _ _ (came.refusal bytes r x) e = absurd (cc)
 
 -- what goes behind what went
 after_told : (t t' : Option (List ℕ)) (old replies more : List ℕ) → t ≡ Some (old ++ replies) → t' ≡ after t more → t' ≡ Some (old ++ (replies ++ more))
@@ -134,7 +151,7 @@ after_told t t' old replies more was went =
 
 -- one more request is answered, and ends nothing
 pub went_on : (s : Settings) (h m h' : PlainHost) (served n : ℕ) (left ahead ahead' told t t' : Option (List ℕ)) (i : Incoming) (r : Reply)
-    → Progress s h m served n left ahead told t → n < s.limits Limit.Served → NextStream (Ok (next.Request i)) ahead ahead' → Answered s m i.asked [] [] r h' → ends_behind i ≡ false → t' ≡ after t (bytes_of r false)
+    → Progress s h m served n left ahead told t → n < s.limits Limit.Served → NextStream (Ok (next.Request i)) ahead ahead' → Answered s m i.asked [] [] r h' → i.close ≡ false → t' ≡ after t (bytes_of r false)
     → Progress s h h' served (n + 1) left ahead' told t'
 went_on s h m h' served n left ahead ahead' told t t' i r progress few stream answered open_yet went = record {
   reached = λ bytes old is_left is_told.
@@ -204,12 +221,12 @@ never_began s h served left told bytes old is_left is_told =
 
 -- a reply was written in part
 pub stops_writing : (s : Settings) (h m h' : PlainHost) (served n part : ℕ) (left ahead ahead' told t t' : Option (List ℕ)) (i : Incoming) (r : Reply)
-    → Progress s h m served n left ahead told t → n < s.limits Limit.Served → NextStream (Ok (next.Request i)) ahead ahead' → Answered s m i.asked [] [] r h' → t' ≡ after t (take part (bytes_of r (ends_behind i)))
+    → Progress s h m served n left ahead told t → n < s.limits Limit.Served → NextStream (Ok (next.Request i)) ahead ahead' → Answered s m i.asked [] [] r h' → t' ≡ after t (take part (bytes_of r i.close))
     → (bytes old : List ℕ) → left ≡ Some bytes → told ≡ Some old → (gained : List ℕ) × (t' ≡ Some (old ++ gained)) × StopsWriting s h h' served (n + 1) bytes [] [] gained
 stops_writing s h m h' served n part left ahead ahead' told t t' i r progress few stream answered went bytes old is_left is_told =
     let q = progress.reached bytes old is_left is_told in
     let c = stream q.rest q.goes_on in
-    let some = take part (bytes_of r (ends_behind i)) in (
+    let some = take part (bytes_of r i.close) in (
       q.written ++ some,
       after_told t t' old q.written some q.wrote went,
       record {
@@ -238,7 +255,7 @@ stops_writing s h m h' served n part left ahead ahead' told t t' i r progress fe
 
 -- memory is refused inside a reply
 pub gives_up_writing : (s : Settings) (h m h' : PlainHost) (served n part : ℕ) (left ahead ahead' told t t' : Option (List ℕ)) (i : Incoming) (r : Reply)
-    → Progress s h m served n left ahead told t → n < s.limits Limit.Served → NextStream (Ok (next.Request i)) ahead ahead' → Answered s m i.asked [] [] r h' → t' ≡ after t (take part (bytes_of r (ends_behind i)))
+    → Progress s h m served n left ahead told t → n < s.limits Limit.Served → NextStream (Ok (next.Request i)) ahead ahead' → Answered s m i.asked [] [] r h' → t' ≡ after t (take part (bytes_of r i.close))
     → (bytes old : List ℕ) → left ≡ Some bytes → told ≡ Some old → (gained : List ℕ) × (t' ≡ Some (old ++ gained)) × GivesUp s h served bytes [] [] gained
 gives_up_writing s h m h' served n part left ahead ahead' told t t' i r progress few stream answered went bytes old is_left is_told =
     let w = stops_writing s h m h' served n part left ahead ahead' told t t' i r progress few stream answered went bytes old is_left is_told in
@@ -246,7 +263,7 @@ gives_up_writing s h m h' served n part left ahead ahead' told t t' i r progress
 
 -- a reply closes
 pub closes_so : (s : Settings) (h m h' : PlainHost) (served n : ℕ) (left ahead ahead' told t t' : Option (List ℕ)) (i : Incoming) (r : Reply) (e : Ending)
-    → Progress s h m served n left ahead told t → n < s.limits Limit.Served → NextStream (Ok (next.Request i)) ahead ahead' → Answered s m i.asked [] [] r h' → ends_behind i ≡ true → ending_behind i ≡ e → t' ≡ after t (bytes_of r true)
+    → Progress s h m served n left ahead told t → n < s.limits Limit.Served → NextStream (Ok (next.Request i)) ahead ahead' → Answered s m i.asked [] [] r h' → i.close ≡ true → ending_behind i ≡ e → t' ≡ after t (bytes_of r true)
     → (bytes old : List ℕ) → left ≡ Some bytes → told ≡ Some old → (gained : List ℕ) × (t' ≡ Some (old ++ gained)) × RunsTo e s h h' served (n + 1) bytes [] [] gained
 closes_so s h m h' served n left ahead ahead' told t t' i r e progress few stream answered closes is went bytes old is_left is_told =
     let q = progress.reached bytes old is_left is_told in
@@ -257,3 +274,13 @@ closes_so s h m h' served n left ahead ahead' told t t' i r e progress few strea
       after_told t t' old q.written (bytes_of r true) q.wrote went,
       sent_one s h m h' served n (n + 1) bytes q.rest q.written r true e q.prefix last,
     )
+
+-- the reply to a `/halt` is the last
+pub halts_so : (s : Settings) (h m h' : PlainHost) (served n : ℕ) (left ahead ahead' told t t' : Option (List ℕ)) (i : Incoming) (r : Reply)
+    → Progress s h m served n left ahead told t → n < s.limits Limit.Served → NextStream (Ok (next.Request i)) ahead ahead' → Answered s m i.asked [] [] r h' → is_halt i.asked ≡ true → t' ≡ after t (bytes_of r i.close)
+    → (bytes old : List ℕ) → left ≡ Some bytes → told ≡ Some old → (gained : List ℕ) × (t' ≡ Some (old ++ gained)) × RunsTo halted_so s h h' served (n + 1) bytes [] [] gained
+halts_so s h m h' served n left ahead ahead' told t t' i r progress few stream answered halts went bytes old is_left is_told =
+    let q = progress.reached bytes old is_left is_told in
+    let c = stream q.rest q.goes_on in
+    let closes = halt_closes q.rest c.0 i c.2 halts in
+    closes_so s h m h' served n left ahead ahead' told t t' i r halted_so progress few stream answered closes (ap ending_of halts) (went ∙ ap (λ (b : Bool). after t (bytes_of r b)) closes) bytes old is_left is_told

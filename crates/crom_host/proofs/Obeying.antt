@@ -2,8 +2,8 @@
 use Rattle.std.proofs.Common.{◌≡◌, [], sym, subst}
 use Rattle.std.specs.Prelude.{Result}
 use Rattle.cell_places.specs.Heap.{Heap}
-use Rattle.wire_asks.specs.declared.asked.Asked.{Asked}
-use Rattle.wire_asks.specs.declared.asked.Refusal.{Refusal}
+use Rattle.http_wire.specs.Asked.{Asked}
+use Rattle.http_wire.specs.Refusal.{Refusal}
 use Rattle.crom_host.specs.Replying.{Reply}
 use Rattle.crom_host.specs.Plain.{Settings, PlainHost, hosted, PlainStep, Answered}
 

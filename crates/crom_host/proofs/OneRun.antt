@@ -5,8 +5,8 @@ use Rattle.page_units.specs.declared.value.CellName.{CellName}
 use Rattle.cell_places.specs.Heap.{Heap}
 use Rattle.tree_writer.proofs.OneText.{one_text}
 use Rattle.dom_tree.proofs.Finding.{one_found}
-use Rattle.wire_asks.specs.declared.asked.Asked.{Asked}
-use Rattle.wire_asks.specs.declared.asked.Refusal.{Refusal}
+use Rattle.http_wire.specs.Asked.{Asked}
+use Rattle.http_wire.specs.Refusal.{Refusal}
 use Rattle.http_wire.specs.declared.wire.Incoming.{Incoming}
 use Rattle.http_wire.specs.Incoming as came
 use Rattle.http_wire.specs.Incoming.{Comes, incoming_of, refused_as}
@@ -15,7 +15,7 @@ use Rattle.http_wire.specs.Requests.{EndsAs}
 use Rattle.http_wire.proofs.Unique.{message_unique, whole_or_refused, whole_or_ends, ending_unique}
 use Rattle.crom_host.specs.Replying.{Reply, tree}
 use Rattle.crom_host.specs.Plain as p
-use Rattle.crom_host.specs.Plain.{Settings, PlainHost, Answers, Serves, ServesId, PlainStep, Answered, ends_behind, ending_behind, Sent, PlainRun, Ending, IsEnd, EndsOpen, OneRun}
+use Rattle.crom_host.specs.Plain.{Settings, PlainHost, Answers, Serves, ServesId, PlainStep, Answered, ending_behind, Sent, PlainRun, Ending, IsEnd, EndsOpen, OneRun}
 
 -- ---- what comes
 
@@ -83,8 +83,8 @@ answered_once s _ _ _ _ _ _ _ _ _ _ (p.refusal h r) (p.refusal _ _) = (refl, ref
 
 -- ---- runs
 
-never_both : (i j : Incoming) → i ≡ j → ends_behind i ≡ true → ends_behind j ≡ false → ⊥
-never_both i j same closing going = let e = ap ends_behind same in absurd (cc)
+never_both : (i j : Incoming) → i ≡ j → i.close ≡ true → j.close ≡ false → ⊥
+never_both i j same closing going = let e = ap (λ (k : Incoming). k.close) same in absurd (cc)
 
 -- two last replies
 last_once : (s : Settings) (h one other : PlainHost) (n : ℕ) (bytes rest tail : List ℕ) (i j : Incoming) (g q g' q' : Answers) (r r' : Reply) → Comes bytes i rest → Comes bytes j tail → Answered s h i.asked g q r one → Answered s h j.asked g' q' r' other

@@ -1,5 +1,5 @@
 -- The host that never speculates.
-use Rattle.std.specs.Prelude.{◌≡◌, ◌≤◌, ◌<◌, ◌+◌, ℕ, ℤ, pos, Bool, true, false, ◌||◌, List, [], ◌∷◌, ◌++◌, length, Option, Some, None, Result, Ok, Err, ◌⊎◌, ⊤}
+use Rattle.std.specs.Prelude.{◌≡◌, ◌≤◌, ◌<◌, ◌+◌, ℕ, ℤ, pos, Bool, true, false, List, [], ◌∷◌, ◌++◌, length, Option, Some, None, Result, Ok, Err, ◌⊎◌, ⊤}
 use Rattle.std.specs.List.{flat_map}
 use Rattle.page_units.specs.declared.limits.Limit.{Limit}
 use Rattle.page_units.specs.declared.limits.Limit.TheVariants.{Weight, DomText, Served}
@@ -15,10 +15,10 @@ use Rattle.tree_writer.specs.NodeText.{IsTreeText}
 use Rattle.dom_tree.specs.Ids.{Finds}
 use Rattle.page_reader.specs.Page.{IsPage}
 use Rattle.page_reader.specs.Planting.{planted}
-use Rattle.wire_asks.specs.declared.asked.Asked.{Asked}
-use Rattle.wire_asks.specs.declared.asked.Asked.TheVariants as a
-use Rattle.wire_asks.specs.declared.asked.Refusal.{Refusal}
-use Rattle.wire_asks.specs.declared.asked.Refusal.TheVariants.{NoTarget}
+use Rattle.http_wire.specs.Asked.{Asked}
+use Rattle.http_wire.specs.Asked.TheVariants as a
+use Rattle.http_wire.specs.Refusal.{Refusal}
+use Rattle.http_wire.specs.Refusal.TheVariants.{NoTarget}
 use Rattle.http_wire.specs.declared.wire.Incoming.{Incoming}
 use Rattle.http_wire.specs.Incoming.{Comes}
 use Rattle.httparse.specs.Grammar.{EndsInTarget}
@@ -94,10 +94,6 @@ abbrev pub is_halt : Result Asked Refusal → Bool
 is_halt (Ok a.Halt) = true
 is_halt _ = false
 
--- the connection ends behind the reply: the request says so, or it is a `/halt` (RFC 9112, 9.6)
-abbrev pub ends_behind : Incoming → Bool
-ends_behind i = i.close || is_halt i.asked
-
 -- ---- one stream
 
 -- how a stream ends
@@ -139,9 +135,9 @@ pub data PlainRun (s : Settings) : PlainHost → (served : ℕ) → (bytes : Lis
   bound : (h : PlainHost) (n : ℕ) (bytes rest : List ℕ) (i : Incoming) → n ≡ s.limits Served → Comes bytes i rest → PlainRun s h n bytes [] [] [] h n at_bound
   pause : (h : PlainHost) (n : ℕ) (bytes : List ℕ) → PlainRun s h n bytes [] [] [] h n (paused bytes)
   last : (h h' : PlainHost) (n : ℕ) (bytes rest : List ℕ) (i : Incoming) (gets posts : Answers) (r : Reply) → n < s.limits Served → Comes bytes i rest
-      → Answered s h i.asked gets posts r h' → ends_behind i ≡ true → PlainRun s h n bytes gets posts (record { reply = r; closes = true } ∷ []) h' (n + 1) (ending_behind i)
+      → Answered s h i.asked gets posts r h' → i.close ≡ true → PlainRun s h n bytes gets posts (record { reply = r; closes = true } ∷ []) h' (n + 1) (ending_behind i)
   more : (h mid h' : PlainHost) (n m : ℕ) (bytes rest : List ℕ) (i : Incoming) (g p gs ps : Answers) (r : Reply) (sent : List Sent) (e : Ending) → n < s.limits Served → Comes bytes i rest
-      → Answered s h i.asked g p r mid → ends_behind i ≡ false → PlainRun s mid (n + 1) rest gs ps sent h' m e
+      → Answered s h i.asked g p r mid → i.close ≡ false → PlainRun s mid (n + 1) rest gs ps sent h' m e
       → PlainRun s h n bytes (g ++ gs) (p ++ ps) (record { reply = r; closes = false } ∷ sent) h' m e
 
 -- ---- one run

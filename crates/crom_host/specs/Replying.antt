@@ -1,12 +1,12 @@
 -- The replies of the host, and their bytes (RFC 9110, 15; RFC 9112, 4; names and bodies are this project's own).
 use Rattle.std.specs.Prelude.{◌≡◌, ℕ, Bool, true, false, List, Option, None, codes}
 use Rattle.serde_json.specs.Written.{compact_text}
-use Rattle.wire_asks.specs.declared.asked.Asks.{Asks}
-use Rattle.wire_asks.specs.declared.asked.Refusal.{Refusal}
-use Rattle.wire_replies.specs.Refusals.{code_of, allowed_by}
-use Rattle.wire_replies.specs.Bodies.{refusal_data, halted_data, long_text_data}
-use Rattle.wire_replies.specs.ReplyBytes.{reply_text}
-use Rattle.wire_replies.specs.declared.reply.Reply as written
+use Rattle.http_wire.specs.Asks.{Asks}
+use Rattle.http_wire.specs.Refusal.{Refusal}
+use Rattle.http_wire.specs.Refusals.{code_of, allowed_by}
+use Rattle.http_wire.specs.Bodies.{refusal_data, halted_data, long_text_data}
+use Rattle.http_wire.specs.ReplyBytes.{reply_text}
+use Rattle.http_wire.specs.Reply as written
 
 pub data Reply : Type 0 where
   -- a tree text

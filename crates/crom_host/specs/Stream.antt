@@ -9,7 +9,7 @@ use Rattle.http_wire.specs.Outcomes.{IsUnfinished}
 use Rattle.crom_host.specs.declared.stream.Ended.{Ended}
 use Rattle.crom_host.specs.declared.stream.Ended.TheVariants.{End, Closed, Halted, Truncated, ReadFault, WriteFault, RequestBound}
 use Rattle.crom_host.specs.Replying.{Reply, bytes_of}
-use Rattle.crom_host.specs.Plain.{Settings, PlainHost, Answers, Answered, ends_behind, Sent, bytes_sent, PlainRun, Ending, at_end, closed, halted_so, cut_off, at_bound, paused}
+use Rattle.crom_host.specs.Plain.{Settings, PlainHost, Answers, Answered, Sent, bytes_sent, PlainRun, Ending, at_end, closed, halted_so, cut_off, at_bound, paused}
 
 -- the stream was served to an ending of the plain host, and all its replies were written
 abbrev pub RunsTo : Ending → Settings → (h h' : PlainHost) → (served served' : ℕ) → (bytes : List ℕ) → (gets posts : Answers) → (written : List ℕ) → Type 0
@@ -46,7 +46,7 @@ pub record StopsWriting (s : Settings) (h h' : PlainHost) (served served' : ℕ)
   pub used_gets : gets ≡ g ++ gs
   pub used_posts : posts ≡ p ++ ps
   pub part : ℕ
-  pub gained : written ≡ whole ++ take part (bytes_of reply (ends_behind incoming))
+  pub gained : written ≡ whole ++ take part (bytes_of reply incoming.close)
 
 -- Memory was refused: what was written are the replies to the first requests, or those and a part of one reply more.
 abbrev pub GivesUp : Settings → PlainHost → (served : ℕ) → (bytes : List ℕ) → (gets posts : Answers) → (written : List ℕ) → Type 0

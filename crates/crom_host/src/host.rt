@@ -8,7 +8,7 @@ ghost use Rattle.tree_shape.specs.Trees.{Trees};
 ghost use Rattle.page_reader.specs.Page.{IsPage, IsPageFault};
 ghost use Rattle.js_parser.specs.declared.fault.ScriptFault.{ScriptFault};
 ghost use Rattle.page_loading.specs.Loading.{OnlyRule, OnlyScript};
-ghost use Rattle.wire_replies.specs.ReplyBytes.{IsReply};
+ghost use Rattle.http_wire.specs.ReplyBytes.{IsReply};
 ghost use Rattle.crom_host.specs.Replying as replies;
 ghost use Rattle.crom_host.specs.Plain.{default_settings, hosted, Answered, PlainStep, Serves, ServesId};
 ghost use Rattle.crom_host.specs.Loading.{IsScriptFault, LoadSays, OnlyReady};
@@ -16,11 +16,10 @@ ghost use Rattle.crom_host.specs.Loading.{IsScriptFault, LoadSays, OnlyReady};
 use cell_heap::Base;
 use cell_places::DOCUMENT;
 use dom_tree::{dom_text, element_by_id};
+use http_wire::{Asked, Refusal, Reply, halted_reply, long_text_reply, refusal_reply, tree_reply};
 use page_loading::{LoadFault, read_scripts};
 use page_units::{CellName, Limit, NoMemory, Text};
 use std::alloc::Global;
-use wire_asks::{Asked, Refusal};
-use wire_replies::{Reply, halted_reply, long_text_reply, refusal_reply, tree_reply};
 
 /// What loading a page gave.
 #[derive(Drop)]

@@ -13,11 +13,9 @@ ghost use Rattle.crom_host.specs.Stream.{Streamed, StreamCauses, IsWholeEnd};
 
 use crate::host::answer;
 use cell_heap::Base;
-use http_wire::{Incoming, Next, Wire};
+use http_wire::{Asked, Next, Refusal, Wire, write_reply};
 use page_units::{Limit, NoMemory, Sink, Source, Wrote};
 use std::alloc::Global;
-use wire_asks::{Asked, Refusal};
-use wire_replies::write_reply;
 
 /// How a stream ended.
 #[derive(Clone, Copy, Debug, PartialEq, Eq)]
@@ -81,7 +79,7 @@ pub fn serve_stream<S: Source, W: Sink>(
                 let reply = answer(alloc, base, &incoming.asked)?;
                 *served += 1;
                 let halts = is_halt(&incoming.asked);
-                let close = ends_behind(&incoming);
+                let close = incoming.close;
                 match write_reply(alloc, sink, &reply, close)? {
                     Wrote::All => {}
                     Wrote::Failed => return Ok(Ended::WriteFault),
@@ -98,13 +96,6 @@ pub fn serve_stream<S: Source, W: Sink>(
             Next::Failed => return Ok(Ended::ReadFault),
         }
     }
-}
-
-/// Whether the connection ends behind the reply.
-fn ends_behind(incoming: &Incoming) -> bool
-    ensures { result ≡ plain.ends_behind incoming.now }
-{
-    incoming.close || is_halt(&incoming.asked)
 }
 
 /// Whether it is a `/halt`.

@@ -3,6 +3,7 @@ pub mod Named
 pub mod Parts
 pub mod Heads
 pub mod Limits
+pub mod Closing
 pub mod Ahead
 pub mod Reading
 pub mod Unique

@@ -1,19 +1,25 @@
 -- What comes of a stream: requests with what they ask, or refusals (RFC 9112; what is asked is this project's own).
-use Rattle.std.specs.Prelude.{ℕ, true, List, [], ◌∷◌, ◌++◌, map, Err}
+use Rattle.std.specs.Prelude.{ℕ, Bool, ◌||◌, List, [], ◌∷◌, ◌++◌, map, Result, Err}
+use Rattle.wire_asks.specs.declared.asked.Asked.{Asked}
 use Rattle.wire_asks.specs.declared.asked.Refusal.{Refusal}
 use Rattle.wire_asks.specs.Asking.{asked_by}
+use Rattle.wire_asks.specs.Refusals.{closes, ends_connection}
 use Rattle.http_wire.specs.declared.wire.Incoming.{Incoming}
 use Rattle.http_wire.specs.Messages.{Message, BeginsMessage}
 use Rattle.http_wire.specs.Outcomes.{Refuses}
 use Rattle.http_wire.specs.Requests.{Ending, refused, ended, truncated}
 
--- what a request asks, and whether the connection ends behind it
-abbrev pub incoming_of : Message → Incoming
-incoming_of m = record { asked = asked_by m.method m.target m.body; close = m.close }
+-- what a request asks, and whether the connection ends after it: the request says so, or what it asks ends it
+abbrev pub incoming_with : (says_close : Bool) → Result Asked Refusal → Incoming
+incoming_with says_close asked = record { asked = asked; close = says_close || ends_connection asked }
 
--- what is refused as it is framed closes the connection, since the next request can't be found
+-- a whole request, with what it asks
+abbrev pub incoming_of : Message → Incoming
+incoming_of m = incoming_with m.close (asked_by m.method m.target m.body)
+
+-- a refusal of the framing, each of which closes the connection, since the next request can't be found
 abbrev pub refused_as : Refusal → Incoming
-refused_as refusal = record { asked = Err refusal; close = true }
+refused_as r = record { asked = Err r; close = closes r }
 
 -- what comes first of the bytes, and the bytes behind it; behind a refusal of the framing nothing more is read
 pub data Comes : List ℕ → Incoming → List ℕ → Type 0 where

@@ -1,7 +1,7 @@
 //! The reader of requests.
-ghost use Rattle.std.specs.Prelude.{◌≡◌, ◌<◌, ◌≤◌, [], length, IfOk};
+ghost use Rattle.std.specs.Prelude.{◌≡◌, ◌<◌, [], length, IfOk};
 ghost use Rattle.page_units.specs.Outside.{before};
-ghost use Rattle.http_wire.specs.Bounds.{field_room, held_bytes};
+ghost use Rattle.http_wire.specs.Bounds.{held_bytes};
 ghost use Rattle.http_wire.specs.Outcomes.{IsUnfinished};
 ghost use Rattle.http_wire.specs.Held.{WholeIs};
 ghost use Rattle.http_wire.specs.Answers.{
@@ -23,22 +23,34 @@ use crate::request::{Framed, Request};
 use httparse::spans::{EMPTY_HEADER_SPAN, HeaderSpan};
 use page_units::{NoMemory, Source, Took};
 use std::alloc::Global;
+use std::marker::Model;
 
-/// Reads requests from a source, whose bytes behind the last request it holds.
+/// Reads requests from a source. As a value it is the bytes that it holds: those that were read and
+/// belong to no request that was answered.
 #[derive(Drop)]
 pub struct Frames {
-    /// The bytes that were read and belong to no request that was answered.
-    pub held: Vec<u8>,
+    held: Vec<u8>,
     room: Vec<HeaderSpan>,
     alloc: Global,
-    pub ghost few: { length held.items ≤ held_bytes },
-    ghost fields: { field_room ≤ length room.items },
+}
+
+impl Model for Frames {
+    ghost use Rattle.std.specs.Prelude.{ℕ, ◌≤◌, List, length};
+    ghost use Rattle.http_wire.specs.Bounds.{field_room, held_bytes};
+
+    ghost Value = { List ℕ };
+
+    ghost view = { λ frames. frames.held.items };
+
+    // A head and a body at most are held, and there is room for the fields of a head.
+    ghost invariant = { λ frames. (length frames.held.items ≤ held_bytes)
+        × (field_room ≤ length frames.room.items) };
 }
 
 impl Frames {
     /// One that holds nothing.
     pub fn new(alloc: Global) -> Result<Frames, NoMemory>
-        ensures { IfOk result (λ frames. frames.held.items ≡ []) }
+        ensures { IfOk result (λ frames. frames ≡ []) }
     {
         Ok(Frames {
             held: Vec::new(alloc),
@@ -51,15 +63,14 @@ impl Frames {
     /// bytes that it holds are an unfinished request. After anything but a request it is
     /// given up.
     pub fn next<S: Source>(&mut self, source: &mut S) -> Result<Framed, NoMemory>
-        ensures says { FrameSays result (before self.old.held.items (S.left source.old))
-            (before self.new.held.items (S.left source.new)) self.new.held.items }
-        ensures stream { FrameStream result (before self.old.held.items (S.left source.old))
-            (before self.new.held.items (S.left source.new)) }
+        ensures says { FrameSays result (before self.old (S.left source.old))
+            (before self.new (S.left source.new)) self.new }
+        ensures stream { FrameStream result (before self.old (S.left source.old))
+            (before self.new (S.left source.new)) }
         ensures cause { FrameCause result (S.faults source.old) (S.faults source.new) }
-        ensures reads { FrameReads S.read_once result self.old.held.items source.old
-            self.new.held.items source.new }
+        ensures reads { FrameReads S.read_once result self.old source.old self.new source.new }
         // Where the bytes that it holds show the answer, it doesn't read.
-        ensures quiet { ¬ (IsUnfinished self.old.held.items) → source.new ≡ source.old }
+        ensures quiet { ¬ (IsUnfinished self.old) → source.new ≡ source.old }
     {
         'reading: loop {
             match judge(self.held.as_slice(), self.room.as_mut_slice()) {
@@ -83,9 +94,8 @@ impl Frames {
 
     /// Takes the request whose parts these are from the start of the bytes that are held.
     fn take(&mut self, whole: &Whole) -> Result<Request, NoMemory>
-        requires { WholeIs self.old.held.items whole.now }
-        ensures { IfOk result (λ request. TakenFrom self.old.held.items self.new.held.items
-            request) }
+        requires { WholeIs self.old whole.now }
+        ensures { IfOk result (λ request. TakenFrom self.old self.new request) }
     {
         let spans = whole.spans;
         let end = spans.len + whole.body_length;
@@ -106,10 +116,10 @@ impl Frames {
 
     /// Reads more bytes behind those that are held.
     fn read_more<S: Source>(&mut self, source: &mut S) -> Result<Took, NoMemory>
-        requires { length self.old.held.items < held_bytes }
-        ensures ahead { OnRead result (before self.new.held.items (S.left source.new)
-            ≡ before self.old.held.items (S.left source.old)) }
-        ensures holds { ReadHolds result self.old.held.items self.new.held.items }
+        requires { length self.old < held_bytes }
+        ensures ahead { OnRead result (before self.new (S.left source.new)
+            ≡ before self.old (S.left source.old)) }
+        ensures holds { ReadHolds result self.old self.new }
         ensures once { ReadOnce S.read_once result source.old source.new }
         ensures ends { ReadEnds result (S.left source.new) }
         ensures cause { ReadCause result (S.faults source.old) (S.faults source.new) }

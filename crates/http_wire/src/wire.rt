@@ -10,14 +10,16 @@ use crate::framing::Frames;
 use crate::request::{Framed, Request};
 use page_units::{NoMemory, Source};
 use std::alloc::Global;
-use wire_asks::{Asked, Refusal, Routes};
+use std::marker::Model;
+use wire_asks::{Asked, Refusal, Routes, ends_connection};
 
 /// A request that came: what it asks, or why it is refused.
 #[derive(Drop)]
 pub struct Incoming {
     /// What it asks; never the refusal that no element has an id.
     pub asked: Result<Asked, Refusal>,
-    /// The connection ends behind its reply.
+    /// The connection ends after its reply: the request says so (RFC 9112, 9.6), it is a `/halt`, or
+    /// its refusal closes.
     pub close: bool,
 }
 
@@ -34,19 +36,27 @@ pub enum Next {
     Failed,
 }
 
-/// Reads requests from a source, whose bytes behind the last request it holds.
+/// Reads requests from a source. As a value it is the bytes that it holds: those that were read and
+/// belong to no request that was answered.
 #[derive(Drop)]
 pub struct Wire {
-    /// The requests as they are framed.
-    pub frames: Frames,
+    frames: Frames,
     routes: Routes,
     alloc: Global,
+}
+
+impl Model for Wire {
+    ghost use Rattle.std.specs.Prelude.{ℕ, List};
+
+    ghost Value = { List ℕ };
+
+    ghost view = { λ wire. wire.frames };
 }
 
 impl Wire {
     /// A wire that holds nothing.
     pub fn new(alloc: Global) -> Result<Wire, NoMemory>
-        ensures { IfOk result (λ wire. wire.frames.held.items ≡ []) }
+        ensures { IfOk result (λ wire. wire ≡ []) }
     {
         Ok(Wire {
             frames: Frames::new(alloc)?,
@@ -59,23 +69,22 @@ impl Wire {
     /// bytes that it holds are an unfinished request. The wire is given up after an end, a fault, an
     /// error (memory was refused) and a request that closes.
     pub fn next<S: Source>(&mut self, source: &mut S) -> Result<Next, NoMemory>
-        ensures says { NextSays result (before self.old.frames.held.items (S.left source.old))
-            (before self.new.frames.held.items (S.left source.new)) self.new.frames.held.items }
-        ensures stream { NextStream result (before self.old.frames.held.items (S.left source.old))
-            (before self.new.frames.held.items (S.left source.new)) }
-        ensures whole { NextWhole result (before self.old.frames.held.items (S.left source.old))
-            (before self.new.frames.held.items (S.left source.new)) }
+        ensures says { NextSays result (before self.old (S.left source.old))
+            (before self.new (S.left source.new)) self.new }
+        ensures stream { NextStream result (before self.old (S.left source.old))
+            (before self.new (S.left source.new)) }
+        ensures whole { NextWhole result (before self.old (S.left source.old))
+            (before self.new (S.left source.new)) }
         ensures cause { NextCause result (S.faults source.old) (S.faults source.new) }
-        ensures reads { NextReads S.read_once result self.old.frames.held.items source.old
-            self.new.frames.held.items source.new }
+        ensures reads { NextReads S.read_once result self.old source.old self.new source.new }
         // Where the bytes that it holds show the answer, it doesn't read.
-        ensures quiet { ¬ (IsUnfinished self.old.frames.held.items) → source.new ≡ source.old }
+        ensures quiet { ¬ (IsUnfinished self.old) → source.new ≡ source.old }
     {
         Ok(match self.frames.next(source)? {
             Framed::Request(request) => Next::Request(self.incoming(&request)?),
             Framed::Refused(refusal) => Next::Request(Incoming {
                 asked: Err(refusal),
-                close: true,
+                close: refusal.closes(),
             }),
             Framed::End => Next::End,
             Framed::Truncated => Next::Truncated,
@@ -93,9 +102,7 @@ impl Wire {
             request.target.as_slice(),
             request.body.as_slice(),
         )?;
-        Ok(Incoming {
-            asked,
-            close: request.close,
-        })
+        let close = request.close || ends_connection(&asked);
+        Ok(Incoming { asked, close })
     }
 }

@@ -1,5 +1,5 @@
 pub mod Asking
 pub mod Bodies
-pub mod Closing
+pub mod Refusals
 pub mod Routes
 pub mod Table

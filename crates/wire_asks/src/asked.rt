@@ -1,6 +1,6 @@
 //! What is asked, and why it is refused.
 ghost use Rattle.std.specs.Prelude.{◌≡◌};
-ghost use Rattle.wire_asks.specs.Closing.{closes};
+ghost use Rattle.wire_asks.specs.Refusals.{name_of, code_of, allowed_by, closes, ends_connection};
 ghost use Rattle.wire_asks.specs.Routes.{method_name};
 
 use page_units::{PageEvent, Text};
@@ -71,7 +71,58 @@ pub enum Refusal {
 }
 
 impl Refusal {
-    /// Whether the connection is closed behind it.
+    /// Its name, which its reply's body has.
+    pub fn name(self) -> &'static str
+        ensures { result.now ≡ name_of self }
+    {
+        match self {
+            Refusal::BadHead => "BadHead",
+            Refusal::HeadTooLarge => "HeadTooLarge",
+            Refusal::LeftOut => "LeftOut",
+            Refusal::BadLength => "BadLength",
+            Refusal::TooLarge => "TooLarge",
+            Refusal::NoLength => "NoLength",
+            Refusal::NoRoute => "NoRoute",
+            Refusal::BadMethod(_) => "BadMethod",
+            Refusal::BadBody => "BadBody",
+            Refusal::NoTarget => "NoTarget",
+        }
+    }
+
+    /// The status code of its reply (RFC 9110, 15).
+    pub fn code(self) -> u16
+        ensures { result ≡ code_of self }
+    {
+        match self {
+            Refusal::BadHead | Refusal::BadLength | Refusal::BadBody => 400,
+            Refusal::NoRoute | Refusal::NoTarget => 404,
+            Refusal::BadMethod(_) => 405,
+            Refusal::NoLength => 411,
+            Refusal::TooLarge => 413,
+            Refusal::HeadTooLarge => 431,
+            Refusal::LeftOut => 501,
+        }
+    }
+
+    /// The method that the route takes, with 405 alone: that of its reply's Allow field.
+    pub fn allowed(self) -> Option<Asks>
+        ensures { result ≡ allowed_by self }
+    {
+        match self {
+            Refusal::BadMethod(asks) => Some(asks),
+            Refusal::BadHead
+            | Refusal::HeadTooLarge
+            | Refusal::LeftOut
+            | Refusal::BadLength
+            | Refusal::TooLarge
+            | Refusal::NoLength
+            | Refusal::NoRoute
+            | Refusal::BadBody
+            | Refusal::NoTarget => None,
+        }
+    }
+
+    /// Whether the connection is closed after it.
     pub fn closes(self) -> bool
         ensures { result ≡ closes self }
     {
@@ -86,5 +137,16 @@ impl Refusal {
                 false
             }
         }
+    }
+}
+
+/// Whether the connection ends after what came: after a `/halt`, and after a refusal that closes.
+pub fn ends_connection(asked: &Result<Asked, Refusal>) -> bool
+    ensures { result ≡ ends_connection asked.now }
+{
+    match asked {
+        Ok(Asked::Halt) => true,
+        Ok(_) => false,
+        Err(refusal) => refusal.closes(),
     }
 }

@@ -8,5 +8,5 @@ mod bodies;
 mod route;
 pub mod routes;
 
-pub use asked::{Asked, Asks, Refusal};
+pub use asked::{Asked, Asks, Refusal, ends_connection};
 pub use routes::Routes;

@@ -7,10 +7,10 @@ use Rattle.page_units.specs.Coding.{utf8_of_units}
 use Rattle.page_units.specs.declared.fault.Stopped.{Stopped}
 use Rattle.page_units.specs.declared.fault.Stopped.TheVariants as s
 use Rattle.wire_asks.specs.declared.asked.Refusal.{Refusal}
+use Rattle.wire_asks.specs.Refusals.{name_of}
 use Rattle.wire_replies.specs.declared.bodies.Outcome.{Outcome}
 use Rattle.wire_replies.specs.declared.bodies.Outcome.TheVariants as o
 use Rattle.wire_replies.specs.declared.bodies.Stats.{Stats}
-use Rattle.wire_replies.specs.Refusals.{name_of}
 
 -- texts as a list
 abbrev pub texts : List (List ℕ) → Data

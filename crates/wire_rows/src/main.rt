@@ -23,6 +23,7 @@ impl Answers for Wires {
             "failing reads" => streams::told_failing(alloc, fields),
             "counted reads" => streams::told_counted(alloc, fields),
             "replies" => replies::told_reply(alloc, fields),
+            "what refusals say" => replies::told_refusal(alloc, fields),
             "codes" => replies::told_code(alloc, fields),
             "prefixes" => prefixes::told_prefixes(alloc, fields),
             "bodies of events" => bodies::told_event(alloc, fields),

@@ -4,7 +4,7 @@ use crate::told::name_of;
 use page_units::{SureSink, Wrote};
 use row_files::field;
 use std::alloc::{AllocError, Global};
-use wire_asks::{Asks, Refusal};
+use wire_asks::{Asks, Refusal, ends_connection};
 use wire_replies::{
     Outcome, Reply, event_body, halted_reply, json_reply, long_text_reply, refusal_reply,
     tree_reply, write_reply,
@@ -70,6 +70,24 @@ fn refusal_of(name: &str) -> Refusal {
         }
     }
     Refusal::BadHead
+}
+
+/// What the refusal of a name says: its name, its code, the method that is allowed, and whether the
+/// connection ends after it.
+pub fn told_refusal(alloc: Global, fields: &[String]) -> Result<String, AllocError> {
+    let refusal = refusal_of(field(fields, 0));
+    let name = refusal.name();
+    let code = refusal.code();
+    let method = match refusal.allowed() {
+        Some(asks) => asks.name(),
+        None => "no method",
+    };
+    let ends = if ends_connection(&Err(refusal)) {
+        "ends"
+    } else {
+        "goes on"
+    };
+    format!(in alloc; "{name} {code}, {method}, {ends}")
 }
 
 /// Whether a reply of this code and allowed method can be written.

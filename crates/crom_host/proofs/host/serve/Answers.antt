@@ -1,6 +1,6 @@
 use Rattle.std.proofs.Common.{◌≤◌, ◌<◌, ℕ, length, ap, subst}
 use Rattle.std.proofs.lemmas.Result.{IfOk-weaker}
-use Rattle.wire_replies.specs.declared.reply.Reply as written
+use Rattle.http_wire.specs.Reply as written
 use Rattle.crom_host.specs.Replying.{tree, long_text}
 use Rattle.crom_host.specs.Plain as p
 use Rattle.crom_host.proofs.host.serve.Goals as goal

@@ -6,7 +6,7 @@ use Rattle.cell_places.specs.View.{ground, uncounted}
 use Rattle.cell_places.proofs.Runs.{Still-heap}
 use Rattle.cell_heap.specs.Base.{heap_of}
 use Rattle.dom_tree.specs.Ids.{Finds}
-use Rattle.wire_asks.specs.declared.asked.Refusal.TheVariants.{NoTarget}
+use Rattle.http_wire.specs.Refusal.TheVariants.{NoTarget}
 use Rattle.crom_host.specs.Replying.{refused}
 use Rattle.crom_host.specs.Plain as p
 use Rattle.crom_host.specs.Plain.{default_settings, Serves}

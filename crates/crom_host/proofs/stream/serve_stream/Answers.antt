@@ -6,8 +6,8 @@ use Rattle.page_units.specs.Limits.{default_limit}
 use Rattle.cell_places.specs.Sound.{IsSound}
 use Rattle.cell_heap.specs.Base.{heap_of}
 use Rattle.crom_host.specs.Replying.{bytes_of}
-use Rattle.crom_host.specs.Plain.{default_settings, hosted, ends_behind, is_halt, ending_of, closed, halted_so}
-use Rattle.crom_host.proofs.Fronts.{Progress, Wholes, started, whole_started, went_on, whole_on, ended_so, truncated_so, bound_so, read_fault_so, gives_up, never_began, stops_writing, gives_up_writing, closes_so, reply_bytes_of, halt_ends}
+use Rattle.crom_host.specs.Plain.{default_settings, hosted, is_halt, ending_of, closed}
+use Rattle.crom_host.proofs.Fronts.{Progress, Wholes, started, whole_started, went_on, whole_on, ended_so, truncated_so, bound_so, read_fault_so, gives_up, never_began, stops_writing, gives_up_writing, closes_so, halts_so, reply_bytes_of}
 use Rattle.crom_host.proofs.stream.serve_stream.Given as given
 use Rattle.crom_host.proofs.stream.serve_stream.Goals as goal
 use Rattle.crom_host.proofs.stream.serve_stream.Goals.{Else-close}
@@ -37,6 +37,12 @@ returns-then-served-most-clause-stream g c =
     let comes = rw c.in-Request.is at c.in_ok-incoming.ensures.stream in
     bound_so _ _ _ _ _ _ _ _ _ _ _ c.loop-wire.invariant.progress comes (omega (arith, c.default_number-most.ensures, c.if-served-most.true, c.loop-wire.invariant.bound))
 
+pub returns-in_err-reply-in-Request-clause-causes : goal.returns-in_err-reply-in-Request-clause-causes
+returns-in_err-reply-in-Request-clause-causes g c =
+    let p = err_from_is_err_and c.from_residual-in_err-reply-in-Request.result c.from_residual-in_err-reply-in-Request.ensures.1 in
+    let cause = rw c.in-Request.is at c.in_ok-incoming.ensures.cause in
+    rw p.1 (cause ∙ c.loop-wire.invariant.source, c.loop-wire.invariant.sink)
+
 pub returns-in_err-reply-in-Request-clause-stream : goal.returns-in_err-reply-in-Request-clause-stream
 returns-in_err-reply-in-Request-clause-stream g c =
     let p = err_from_is_err_and c.from_residual-in_err-reply-in-Request.result c.from_residual-in_err-reply-in-Request.ensures.1 in
@@ -54,8 +60,8 @@ returns-in_err-write_reply-in-Request-clause-stream g c =
     let comes = rw c.in-Request.is at c.in_ok-incoming.ensures.stream in
     let answered = c.in_ok-reply-in-Request.ensures.answered in
     let front = c.write_reply.ensures.front in
-    let went : g.W.Sink.told c.write_reply.new.sink ≡ after (g.W.Sink.told c.loop-wire.sink) (take front.0 (bytes_of answered.0 (ends_behind c.in-Request.incoming))) =
-    front.1 ∙ ap (λ (z : List ℕ). after (g.W.Sink.told c.loop-wire.sink) (take front.0 z)) (reply_bytes_of _ _ _ _ answered.2 c.ends_behind-close.ensures) in
+    let went : g.W.Sink.told c.write_reply.new.sink ≡ after (g.W.Sink.told c.loop-wire.sink) (take front.0 (bytes_of answered.0 c.in-Request.incoming.close)) =
+    front.1 ∙ ap (λ (z : List ℕ). after (g.W.Sink.told c.loop-wire.sink) (take front.0 z)) (reply_bytes_of _ _ _ _ answered.2 refl) in
     rw p.1 (gives_up_writing _ _ _ _ _ _ front.0 _ _ _ _ _ _ _ answered.0 c.loop-wire.invariant.progress (subst (λ (k : ℕ). c.loop-wire.served < k) c.default_number-most.ensures c.if-served-most.false) comes answered.1 went)
 
 pub returns-in-Failed-2-clause-stream : goal.returns-in-Failed-2-clause-stream
@@ -63,8 +69,8 @@ returns-in-Failed-2-clause-stream g c =
     let comes = rw c.in-Request.is at c.in_ok-incoming.ensures.stream in
     let answered = c.in_ok-reply-in-Request.ensures.answered in
     let front = c.write_reply.ensures.front in
-    let went : g.W.Sink.told c.write_reply.new.sink ≡ after (g.W.Sink.told c.loop-wire.sink) (take front.0 (bytes_of answered.0 (ends_behind c.in-Request.incoming))) =
-    front.1 ∙ ap (λ (z : List ℕ). after (g.W.Sink.told c.loop-wire.sink) (take front.0 z)) (reply_bytes_of _ _ _ _ answered.2 c.ends_behind-close.ensures) in
+    let went : g.W.Sink.told c.write_reply.new.sink ≡ after (g.W.Sink.told c.loop-wire.sink) (take front.0 (bytes_of answered.0 c.in-Request.incoming.close)) =
+    front.1 ∙ ap (λ (z : List ℕ). after (g.W.Sink.told c.loop-wire.sink) (take front.0 z)) (reply_bytes_of _ _ _ _ answered.2 refl) in
     stops_writing _ _ _ _ _ _ front.0 _ _ _ _ _ _ _ answered.0 c.loop-wire.invariant.progress (subst (λ (k : ℕ). c.loop-wire.served < k) c.default_number-most.ensures c.if-served-most.false) comes answered.1 went
 
 pub returns-then-halts-clause-stream : goal.returns-then-halts-clause-stream
@@ -73,10 +79,9 @@ returns-then-halts-clause-stream g c =
     let comes = rw c.in-Request.is at c.in_ok-incoming.ensures.stream in
     let answered = c.in_ok-reply-in-Request.ensures.answered in
     let all = rw c.in-All.is at c.in_ok-write_reply-in-Request.ensures.all in
-    let ends : ends_behind c.in-Request.incoming ≡ true = halt_ends c.in-Request.incoming halt in
-    let went : g.W.Sink.told c.write_reply.new.sink ≡ after (g.W.Sink.told c.loop-wire.sink) (bytes_of answered.0 true) =
-    all ∙ ap (after (g.W.Sink.told c.loop-wire.sink)) (reply_bytes_of _ _ _ _ answered.2 (c.ends_behind-close.ensures ∙ ends)) in
-    closes_so _ _ _ _ _ _ _ _ _ _ _ _ _ answered.0 halted_so c.loop-wire.invariant.progress (subst (λ (k : ℕ). c.loop-wire.served < k) c.default_number-most.ensures c.if-served-most.false) comes answered.1 ends (ap ending_of halt) went
+    let went : g.W.Sink.told c.write_reply.new.sink ≡ after (g.W.Sink.told c.loop-wire.sink) (bytes_of answered.0 c.in-Request.incoming.close) =
+    all ∙ ap (after (g.W.Sink.told c.loop-wire.sink)) (reply_bytes_of _ _ _ _ answered.2 refl) in
+    halts_so _ _ _ _ _ _ _ _ _ _ _ _ _ answered.0 c.loop-wire.invariant.progress (subst (λ (k : ℕ). c.loop-wire.served < k) c.default_number-most.ensures c.if-served-most.false) comes answered.1 halt went
 
 pub returns-then-close-clause-stream : goal.returns-then-close-clause-stream
 returns-then-close-clause-stream g c =
@@ -84,16 +89,16 @@ returns-then-close-clause-stream g c =
     let comes = rw c.in-Request.is at c.in_ok-incoming.ensures.stream in
     let answered = c.in_ok-reply-in-Request.ensures.answered in
     let all = rw c.in-All.is at c.in_ok-write_reply-in-Request.ensures.all in
-    let ends : ends_behind c.in-Request.incoming ≡ true = sym c.ends_behind-close.ensures ∙ c.if-close.true in
+    let ends : c.in-Request.incoming.close ≡ true = c.if-close.true in
     let went : g.W.Sink.told c.write_reply.new.sink ≡ after (g.W.Sink.told c.loop-wire.sink) (bytes_of answered.0 true) =
-    all ∙ ap (after (g.W.Sink.told c.loop-wire.sink)) (reply_bytes_of _ _ _ _ answered.2 (c.ends_behind-close.ensures ∙ ends)) in
+    all ∙ ap (after (g.W.Sink.told c.loop-wire.sink)) (reply_bytes_of _ _ _ _ answered.2 ends) in
     closes_so _ _ _ _ _ _ _ _ _ _ _ _ _ answered.0 closed c.loop-wire.invariant.progress (subst (λ (k : ℕ). c.loop-wire.served < k) c.default_number-most.ensures c.if-served-most.false) comes answered.1 ends (ap ending_of halt) went
 
 -- the requests so far are answered, the one that came with them
 went_round : (g : given.Over) (c : Else-close g) → record {
   progress : Progress default_settings (hosted (heap_of c.args.base.now)) (hosted (heap_of c.answer.new.base)) c.args.served.now (c.loop-wire.served + 1) (g.S.Source.left c.args.source.now)
-      (before c.next.new.self.frames.held.items (g.S.Source.left c.next.new.source)) (g.W.Sink.told c.args.sink.now) (g.W.Sink.told c.write_reply.new.sink);
-  whole : Wholes (default_limit Served) c.args.served.now (c.loop-wire.served + 1) (g.S.Source.left c.args.source.now) (before c.next.new.self.frames.held.items (g.S.Source.left c.next.new.source));
+      (before c.next.new.self (g.S.Source.left c.next.new.source)) (g.W.Sink.told c.args.sink.now) (g.W.Sink.told c.write_reply.new.sink);
+  whole : Wholes (default_limit Served) c.args.served.now (c.loop-wire.served + 1) (g.S.Source.left c.args.source.now) (before c.next.new.self (g.S.Source.left c.next.new.source));
   sound : IsSound 0 (heap_of c.answer.new.base);
   source : g.S.Source.faults c.next.new.source ≡ g.S.Source.faults c.args.source.now;
   sink : g.W.Sink.faults c.write_reply.new.sink ≡ g.W.Sink.faults c.args.sink.now;
@@ -103,9 +108,9 @@ went_round g c =
     let comes = rw c.in-Request.is at c.in_ok-incoming.ensures.stream in
     let answered = c.in_ok-reply-in-Request.ensures.answered in
     let all = rw c.in-All.is at c.in_ok-write_reply-in-Request.ensures.all in
-    let ends : ends_behind c.in-Request.incoming ≡ false = sym c.ends_behind-close.ensures ∙ c.if-close.false in
+    let ends : c.in-Request.incoming.close ≡ false = c.if-close.false in
     let went : g.W.Sink.told c.write_reply.new.sink ≡ after (g.W.Sink.told c.loop-wire.sink) (bytes_of answered.0 false) =
-    all ∙ ap (after (g.W.Sink.told c.loop-wire.sink)) (reply_bytes_of _ _ _ _ answered.2 (c.ends_behind-close.ensures ∙ ends)) in
+    all ∙ ap (after (g.W.Sink.told c.loop-wire.sink)) (reply_bytes_of _ _ _ _ answered.2 ends) in
     let wholes = rw c.in-Request.is at c.in_ok-incoming.ensures.whole in
     let cause = rw c.in-Request.is at c.in_ok-incoming.ensures.cause in
     let count = rw c.in-All.is at c.in_ok-write_reply-in-Request.ensures.count in
@@ -146,4 +151,4 @@ returns-in-Truncated-clause-stream g c =
 pub returns-in-Failed-clause-stream : goal.returns-in-Failed-clause-stream
 returns-in-Failed-clause-stream g c =
     let says = rw c.in-Failed.is at c.in_ok-incoming.ensures.says in
-    read_fault_so _ _ _ _ _ _ _ _ _ _ c.next.new.self.frames.held.items c.loop-wire.invariant.progress says.0 says.1
+    read_fault_so _ _ _ _ _ _ _ _ _ _ c.next.new.self c.loop-wire.invariant.progress says.0 says.1

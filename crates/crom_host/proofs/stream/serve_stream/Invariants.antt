@@ -14,8 +14,8 @@ invariant-loop-wire g l =
     let left = g.S.Source.left in
     let told = g.W.Sink.told in
     record {
-      progress : Progress default_settings (hosted (heap_of l.fn.base)) (hosted (heap_of l.base)) l.fn.served l.served (left l.fn.source) (before l.wire.frames.held.items (left l.source)) (told l.fn.sink) (told l.sink);
-      whole : Wholes (default_limit Served) l.fn.served l.served (left l.fn.source) (before l.wire.frames.held.items (left l.source));
+      progress : Progress default_settings (hosted (heap_of l.fn.base)) (hosted (heap_of l.base)) l.fn.served l.served (left l.fn.source) (before l.wire (left l.source)) (told l.fn.sink) (told l.sink);
+      whole : Wholes (default_limit Served) l.fn.served l.served (left l.fn.source) (before l.wire (left l.source));
       sound : IsSound 0 (heap_of l.base);
       source : g.S.Source.faults l.source ≡ g.S.Source.faults l.fn.source;
       sink : g.W.Sink.faults l.sink ≡ g.W.Sink.faults l.fn.sink;

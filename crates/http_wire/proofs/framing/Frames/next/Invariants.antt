@@ -1,4 +1,4 @@
-use Rattle.std.proofs.Common.{◌≡◌, ◌-◌, vec_len}
+use Rattle.std.proofs.Common.{◌≡◌, ◌-◌, length}
 use Rattle.page_units.specs.Outside.{before}
 use Rattle.http_wire.specs.Bounds.{held_bytes}
 use Rattle.http_wire.specs.Outcomes.{IsUnfinished}
@@ -11,11 +11,11 @@ invariant-reading g l =
     let left = g.S.Source.left in
     let faults = g.S.Source.faults in
     record {
-      ahead : before l.self.held.items (left l.source) ≡ before l.fn.self.held.items (left l.fn.source);
+      ahead : before l.self (left l.source) ≡ before l.fn.self (left l.fn.source);
       count : faults l.source ≡ faults l.fn.source;
-      still : ¬ (IsUnfinished l.fn.self.held.items) → (l.source ≡ l.fn.source) × (l.self.held.items ≡ l.fn.self.held.items);
-      on : ReadsOn g.S.Source.read_once l.fn.self.held.items l.fn.source l.self.held.items l.source;
+      still : ¬ (IsUnfinished l.fn.self) → (l.source ≡ l.fn.source) × (l.self ≡ l.fn.self);
+      on : ReadsOn g.S.Source.read_once l.fn.self l.fn.source l.self l.source;
     }
 
 abbrev pub decreases-reading : goal.decreases-reading
-decreases-reading g l = held_bytes - vec_len l.self.held
+decreases-reading g l = held_bytes - length l.self

@@ -1,9 +1,13 @@
--- How refusals are told: the code (RFC 9110, 15), the method that is allowed, and the name (this project's own).
-use Rattle.std.specs.Prelude.{ℕ, List, Option, Some, None, codes}
+-- What a refusal says: its status code (RFC 9110, 15), the method that is allowed, its name, and whether it closes the
+-- connection; and what else ends the connection (this project's own).
+use Rattle.std.specs.Prelude.{ℕ, Bool, true, false, List, Option, Some, None, Result, Ok, Err, codes}
+use Rattle.wire_asks.specs.declared.asked.Asked.{Asked}
+use Rattle.wire_asks.specs.declared.asked.Asked.TheVariants as a
 use Rattle.wire_asks.specs.declared.asked.Asks.{Asks}
 use Rattle.wire_asks.specs.declared.asked.Refusal.{Refusal}
 use Rattle.wire_asks.specs.declared.asked.Refusal.TheVariants as r
 
+-- the status code of its reply
 abbrev pub code_of : Refusal → ℕ
 code_of r.BadHead = 400
 code_of r.HeadTooLarge = 431
@@ -29,6 +33,7 @@ allowed_by (r.BadMethod asks) = Some asks
 allowed_by r.BadBody = None
 allowed_by r.NoTarget = None
 
+-- its name in its reply's body
 abbrev pub name_of : Refusal → List ℕ
 name_of r.BadHead = codes "BadHead"
 name_of r.HeadTooLarge = codes "HeadTooLarge"
@@ -40,3 +45,22 @@ name_of r.NoRoute = codes "NoRoute"
 name_of (r.BadMethod asks) = codes "BadMethod"
 name_of r.BadBody = codes "BadBody"
 name_of r.NoTarget = codes "NoTarget"
+
+-- whether the connection is closed after it: where the next request can't be found
+abbrev pub closes : Refusal → Bool
+closes r.BadHead = true
+closes r.HeadTooLarge = true
+closes r.LeftOut = true
+closes r.BadLength = true
+closes r.TooLarge = true
+closes r.NoLength = true
+closes r.NoRoute = false
+closes (r.BadMethod asks) = false
+closes r.BadBody = false
+closes r.NoTarget = false
+
+-- whether the connection ends after what came: after a `/halt`, and after a refusal that closes
+abbrev pub ends_connection : Result Asked Refusal → Bool
+ends_connection (Ok a.Halt) = true
+ends_connection (Ok _) = false
+ends_connection (Err refusal) = closes refusal
