@@ -3,7 +3,7 @@ use Rattle.std.proofs.Common.{◌≡◌, ◌<◌, ◌≤◌, ◌+◌, ℕ, Bool,
 use Rattle.std.specs.Prelude.{◌||◌, Result}
 use Rattle.std.proofs.lemmas.List.{append-nil}
 use Rattle.std.proofs.lemmas.Grind.{flat_map-append}
-use Rattle.page_units.specs.Outside.{before, after}
+use Rattle.byte_ports.specs.Streams.{before, after}
 use Rattle.page_units.specs.declared.limits.Limit.TheVariants as Limit
 use Rattle.http_wire.specs.declared.wire.Incoming.{Incoming}
 use Rattle.http_wire.specs.declared.wire.Next.TheVariants as next

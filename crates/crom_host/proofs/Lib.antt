@@ -1,9 +1,5 @@
-pub mod Checks
-pub mod Commands
-pub mod Complete
-pub mod Counting
 pub mod Fronts
-pub mod OneRun
 pub mod Hosting
 pub mod Obeying
-pub mod Serving
+pub mod OneRun
+pub mod Replied

@@ -1,9 +1,4 @@
-pub mod Checking
-pub mod Faults
-pub mod Headline
 pub mod Loading
 pub mod Plain
 pub mod Replying
-pub mod Statuses
 pub mod Stream
-pub mod Words

@@ -1,48 +1,46 @@
--- What loading a page says.
-use Rattle.std.specs.Prelude.{◌≢◌, List, [], ℕ, Result, Ok, Err, ⊤}
+-- What loading a page reports.
+use Rattle.std.specs.Prelude.{◌≡◌, ◌≢◌, List, [], ℕ, Result, Ok, Err, ⊤}
+use Rattle.grammar.specs.Exactly.{Report, Value, Fault, OutOfMemory, Says}
 use Rattle.cell_places.specs.Sound.{IsSound}
 use Rattle.cell_heap.specs.Base.{heap_of}
-use Rattle.tree_shape.specs.Trees.{Trees}
-use Rattle.page_reader.specs.declared.fault.PageFault.TheVariants as page
-use Rattle.page_reader.specs.declared.page.ScriptText.{ScriptText}
-use Rattle.page_reader.specs.Page.{IsPage, IsPageFault}
 use Rattle.js_tree.specs.declared.code.Program.{Program}
-use Rattle.js_parser.specs.declared.fault.ScriptFault.{ScriptFault}
 use Rattle.page_loading.specs.declared.fault.LoadFault.{LoadFault}
-use Rattle.page_loading.specs.declared.fault.LoadFault.TheVariants.{Page, Script, NoMemory}
-use Rattle.page_loading.specs.Programs.{ArePrograms, FirstFault}
+use Rattle.page_loading.specs.declared.fault.LoadFault.TheVariants.{NoMemory}
+use Rattle.page_loading.specs.Loading.{HasPrograms, ShowsFault}
 use Rattle.crom_host.specs.declared.host.Loaded.{Loaded}
 use Rattle.crom_host.specs.declared.host.Loaded.TheVariants.{Ready, HasScripts}
-use Rattle.crom_host.specs.Plain.{default_settings, Loads}
+use Rattle.crom_host.specs.Plain.{Settings, Loads}
 
 -- The bytes are a page with a script, and each of its scripts has a program.
 pub record IsScripted (page : List ℕ) : Type 0 where
-  pub trees : Trees
-  pub scripts : List ScriptText
-  pub reads : IsPage page trees scripts
-  pub some : scripts ≢ []
   pub programs : List Program
-  pub have : ArePrograms page scripts programs
+  pub read : HasPrograms page programs
+  pub some : read.scripts ≢ []
 
--- The bytes are a page, and the first of its scripts that is not a program has this number and shows this fault.
-pub record IsScriptFault (page : List ℕ) (index : ℕ) (fault : ScriptFault) : Type 0 where
-  pub trees : Trees
-  pub scripts : List ScriptText
-  pub reads : IsPage page trees scripts
-  pub first : FirstFault page scripts index fault
+-- what the bytes are where they were loaded so
+abbrev pub IsLoaded : Settings → (page : List ℕ) → Loaded → Type 0
+IsLoaded s page (Ready base) = Loads s page (heap_of base) × IsSound 0 (heap_of base)
+IsLoaded s page HasScripts = IsScripted page
 
-abbrev pub LoadSays : Result Loaded LoadFault → (page : List ℕ) → Type 0
-LoadSays (Ok (Ready base)) page = Loads default_settings page (heap_of base) × IsSound 0 (heap_of base)
-LoadSays (Ok HasScripts) page = IsScripted page
-LoadSays (Err (Page (page.Rule number at))) page = IsPageFault page number at
-LoadSays (Err (Page page.NoMemory)) page = ⊥
-LoadSays (Err (Script index fault)) page = IsScriptFault page index fault
-LoadSays (Err NoMemory) page = ⊤
+-- the page is loaded, and has no script
+abbrev pub IsReady : Loaded → Type 0
+IsReady (Ready base) = ⊤
+IsReady HasScripts = ⊥
 
--- a page without scripts is loaded, unless memory was refused
+-- what loading reports
+abbrev pub report : Result Loaded LoadFault → Report Loaded LoadFault
+report (Ok loaded) = Value loaded
+report (Err NoMemory) = OutOfMemory
+report (Err fault) = Fault fault
+
+-- What is reported of the bytes is so.
+abbrev pub LoadSays : Settings → Result Loaded LoadFault → (page : List ℕ) → Type 0
+LoadSays s result page = Says (IsLoaded s page) (ShowsFault page) (report result)
+
+-- the page is loaded, unless memory was refused
 abbrev pub OnlyReady : Result Loaded LoadFault → Type 0
-OnlyReady (Ok (Ready base)) = ⊤
-OnlyReady (Ok HasScripts) = ⊥
-OnlyReady (Err (Page fault)) = ⊥
-OnlyReady (Err (Script index fault)) = ⊥
-OnlyReady (Err NoMemory) = ⊤
+OnlyReady result = Says IsReady (λ _. ⊥) (report result)
+
+-- this fault is reported, unless memory was refused
+abbrev pub OnlyFault : Result Loaded LoadFault → LoadFault → Type 0
+OnlyFault result fault = Says (λ _. ⊥) (λ given. given ≡ fault) (report result)

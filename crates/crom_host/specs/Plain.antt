@@ -6,7 +6,9 @@ use Rattle.page_units.specs.declared.limits.Limit.TheVariants.{Weight, DomText, 
 use Rattle.page_units.specs.declared.value.CellName.{CellName}
 use Rattle.page_units.specs.declared.event.PageEvent.{PageEvent}
 use Rattle.page_units.specs.declared.event.Response.{Response}
+use Rattle.page_units.specs.declared.limits.Limits.{Limits}
 use Rattle.page_units.specs.Limits.{default_limit}
+use Rattle.page_units.specs.LimitsOf.{number_of}
 use Rattle.cell_places.specs.Heap.{Heap}
 use Rattle.cell_places.specs.Acts.{Act}
 use Rattle.cell_places.specs.Start.{start, document_cell}
@@ -36,7 +38,11 @@ pub record Settings : Type 0 where
   pub codes : ℕ
   pub address : List ℕ
 
--- where nothing else is asked for, and no script is run
+-- the settings with these bounds, where nothing else is asked for and no script is run
+abbrev pub settings_of : Limits → Settings
+settings_of limits = record { limits = number_of limits; moment = pos 0; codes = 0; address = [] }
+
+-- the same, where each bound is its default
 abbrev pub default_settings : Settings
 default_settings = record { limits = default_limit; moment = pos 0; codes = 0; address = [] }
 
@@ -46,7 +52,7 @@ pub record PlainHost : Type 0 where
   pub loaded : Reply
   pub events : ℕ
 
--- a host of this heap, where loading isn't told yet and no event ran
+-- a host of this heap, where loading isn't reported yet and no event ran
 abbrev pub hosted : Heap → PlainHost
 hosted H = record { heap = H; loaded = not_built; events = 0 }
 

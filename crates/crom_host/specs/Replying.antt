@@ -46,7 +46,7 @@ body (refused r) = compact_text (refusal_data r)
 body not_built = codes "{\"refused\":\"NotBuilt\"}"
 body halted = compact_text halted_data
 
--- the bytes of a reply, behind which the connection ends or doesn't
+-- the bytes of a reply, after which the connection ends or doesn't
 abbrev pub bytes_of : Reply → (close : Bool) → List ℕ
 bytes_of r close = reply_text (status r) (is_html r) (allow r) (body r) close
 

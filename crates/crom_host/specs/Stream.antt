@@ -1,7 +1,7 @@
 -- One stream, from its bytes to what was written.
 use Rattle.std.specs.Prelude.{◌≡◌, ◌<◌, ◌⊎◌, ℕ, ◌+◌, List, ◌++◌, take, Option, Some, Result, Ok, Err, ⊤}
 use Rattle.std.specs.declared.alloc.AllocError.{AllocError}
-use Rattle.page_units.specs.Outside.{before, Rose}
+use Rattle.byte_ports.specs.Streams.{before, Rose}
 use Rattle.page_units.specs.declared.limits.Limit.TheVariants as Limit
 use Rattle.http_wire.specs.declared.wire.Incoming.{Incoming}
 use Rattle.http_wire.specs.Incoming.{Comes}

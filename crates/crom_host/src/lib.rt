@@ -1,14 +1,10 @@
-//! The page host over a shelf, a source and a sink, whatever these are: it loads one page and answers the requests of
-//! its input. `run` is the whole program but for the real files and streams, which `cromhost` hands it.
+//! The host of one page, for programs that have pages and requests of their own: `load` reads a page,
+//! `answer` replies to what was asked of it, and `serve_stream` answers a whole stream of requests.
+//! Each takes the bounds of the page's work as an argument.
 #![tactic(auto)]
 
-mod check;
-mod host;
-mod program;
-mod status;
-mod stdio;
-mod stream;
-mod words;
+pub mod host;
+pub mod stream;
 
-pub use program::run;
-pub use status::Status;
+pub use host::{Loaded, answer, load};
+pub use stream::{Ended, serve_stream};

@@ -1,16 +1,16 @@
-//! The page host's program: hands `run` the words, the real files and the real streams.
+//! The page host's program: hands `run` the arguments, the real files and the real streams.
 #![tactic(auto)]
 
-use crom_host::{Status, run};
+use crom_commands::{Status, run};
 use page_units::{FileShelf, StdSink, StdSource};
 use std::env;
 use std::process::ExitCode;
 
-/// Runs the command of the program's words over the files, standard input and standard output,
+/// Runs the command of the program's arguments over the files, standard input and standard output,
 /// prints the status's line to standard error, and ends with its number.
 fn main(rt: HostRuntime) -> ExitCode {
     let status = match env::args(&rt) {
-        Ok(args) => match args.skip(1).collect(rt.alloc()) {
+        Ok(args) => match args.skip(1).collect::<Vec<_>>(rt.alloc()) {
             Ok(words) => run(
                 rt.alloc(),
                 &words,

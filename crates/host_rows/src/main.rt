@@ -1,10 +1,12 @@
-//! Pages and requests with what `run` writes and how it ends, over objects in memory: the tests of `crom_host`. The
-//! rows stand in `data/rows.json`.
+//! Pages and requests with what `run` writes and how it ends, over objects in memory, and with what the host replies
+//! within other limits: the tests of `crom_commands` and `crom_host`. The rows stand in `data/rows.json`.
 #![tactic(auto)]
 
+mod hosting;
 mod running;
 mod telling;
 
+use crate::hosting::{replied_within, served_within};
 use crate::running::{Run, behind_many, read_in_bytes, told_of_each_cut};
 use row_files::{Answers, field, number, run};
 use std::alloc::{AllocError, Global};
@@ -20,6 +22,8 @@ impl Answers for Runs {
             "failing" => failing(alloc, fields),
             "read in bytes" => read_in_bytes(alloc, number(fields, 0)),
             "bound" => behind_many(alloc, field(fields, 0)),
+            "replied within" => within_a_text(alloc, fields),
+            "served within" => within_both(alloc, fields),
             _ => String::from_str(alloc, "no such group"),
         }
     }
@@ -53,6 +57,17 @@ fn failing(alloc: Global, fields: &[String]) -> Result<String, AllocError> {
         ..Run::new(words.as_slice())
     }
     .told(alloc)
+}
+
+/// A page and a bound of a tree text.
+fn within_a_text(alloc: Global, fields: &[String]) -> Result<String, AllocError> {
+    replied_within(alloc, field(fields, 0), number(fields, 1))
+}
+
+/// A page, the requests, and the bounds of a tree text and of the requests.
+fn within_both(alloc: Global, fields: &[String]) -> Result<String, AllocError> {
+    let (page, input) = (field(fields, 0), field(fields, 1));
+    served_within(alloc, page, input, number(fields, 2), number(fields, 3))
 }
 
 fn words_of(alloc: Global, command: &str, page: &str) -> Result<Vec<String>, AllocError> {

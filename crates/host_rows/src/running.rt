@@ -1,6 +1,6 @@
 //! Runs over objects in memory.
 use crate::telling::told;
-use crom_host::{Status, run};
+use crom_commands::{Status, run};
 use page_units::{MemoryShelf, MemorySink, MemorySource, SureSink, SureSource};
 use row_files::pieces_of;
 use std::alloc::{AllocError, Global};
@@ -11,7 +11,7 @@ const DOM: &str = "GET /dom HTTP/1.1\r\n\r\n";
 /// The most requests that a run answers.
 const MOST: usize = 100_000;
 
-/// A run: its words, the page `p`, the input, of which `count` bytes come in pieces of `length` and then as many as fit,
+/// A run: its arguments, the page `p`, the input, of which `count` bytes come in pieces of `length` and then as many as fit,
 /// and which call of shelf, input and output fails, from 1 (0: none).
 #[derive(Clone, Copy)]
 pub struct Run<'a> {

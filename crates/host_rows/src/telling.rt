@@ -1,5 +1,5 @@
-//! What a run is told by: what it wrote, and how it ended.
-use crom_host::Status;
+//! What is reported of a run: what it wrote, and how it ended.
+use crom_commands::Status;
 use std::alloc::{AllocError, Global};
 
 /// The bytes as a text, `|`, and the status's number and line.

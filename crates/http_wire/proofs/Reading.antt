@@ -1,7 +1,7 @@
 -- Reads one after another.
 use Rattle.std.proofs.Common.{◌≡◌, ◌<◌, ◌≤◌, ℕ, List, ◌++◌, length, refl, sym, subst}
-use Rattle.page_units.specs.declared.source.Took.{Took}
-use Rattle.page_units.specs.declared.source.Took.TheVariants.{Got}
+use Rattle.byte_ports.specs.declared.source.Took.{Took}
+use Rattle.byte_ports.specs.declared.source.Took.TheVariants.{Got}
 use Rattle.http_wire.specs.Bounds.{read_bytes}
 use Rattle.http_wire.specs.Outcomes.{IsUnfinished}
 use Rattle.http_wire.specs.Reading.{ReadsOn, none, more}

@@ -1,6 +1,6 @@
 -- From what is framed to what is asked.
 use Rattle.std.proofs.Common.{◌≡◌, ℕ, List, [], ◌++◌, Option, Some, Ok, sym, subst, ◌∙◌}
-use Rattle.page_units.specs.Outside.{before}
+use Rattle.byte_ports.specs.Streams.{before}
 use Rattle.wire_asks.specs.declared.asked.Refusal.{Refusal}
 use Rattle.http_wire.specs.declared.request.Request.{Request}
 use Rattle.http_wire.specs.declared.request.Framed.TheVariants as framed

@@ -1,9 +1,9 @@
 -- What the reader answers of the bytes ahead: those that it holds, and then what is left of the source.
 use Rattle.std.specs.Prelude.{◌≡◌, ℕ, ◌<◌, ◌≤◌, List, [], ◌∷◌, ◌++◌, length, Option, Some, Result, Ok, Err, ⊤}
 use Rattle.std.specs.declared.alloc.AllocError.{AllocError}
-use Rattle.page_units.specs.Outside.{before, Rose}
-use Rattle.page_units.specs.declared.source.Took.{Took}
-use Rattle.page_units.specs.declared.source.Took.TheVariants as took
+use Rattle.byte_ports.specs.Streams.{before, Rose}
+use Rattle.byte_ports.specs.declared.source.Took.{Took}
+use Rattle.byte_ports.specs.declared.source.Took.TheVariants as took
 use Rattle.http_wire.specs.Bounds.{read_bytes}
 use Rattle.http_wire.specs.declared.request.Framed.{Framed}
 use Rattle.http_wire.specs.declared.request.Framed.TheVariants as framed

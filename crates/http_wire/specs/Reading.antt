@@ -1,8 +1,8 @@
 -- How the reader reads: one read after another, and none where what is kept shows the answer (this project's own).
 use Rattle.std.specs.Prelude.{◌≡◌, ℕ, ◌<◌, ◌≤◌, ◌⊎◌, List, ◌++◌, length, Result, Ok, Err}
 use Rattle.std.specs.declared.alloc.AllocError.{AllocError}
-use Rattle.page_units.specs.declared.source.Took.{Took}
-use Rattle.page_units.specs.declared.source.Took.TheVariants as took
+use Rattle.byte_ports.specs.declared.source.Took.{Took}
+use Rattle.byte_ports.specs.declared.source.Took.TheVariants as took
 use Rattle.http_wire.specs.Bounds.{read_bytes}
 use Rattle.http_wire.specs.declared.request.Framed.{Framed}
 use Rattle.http_wire.specs.declared.request.Framed.TheVariants as framed

@@ -1,6 +1,6 @@
 //! The reader of requests.
 ghost use Rattle.std.specs.Prelude.{◌≡◌, ◌<◌, [], length, IfOk};
-ghost use Rattle.page_units.specs.Outside.{before};
+ghost use Rattle.byte_ports.specs.Streams.{before};
 ghost use Rattle.http_wire.specs.Bounds.{held_bytes};
 ghost use Rattle.http_wire.specs.Outcomes.{IsUnfinished};
 ghost use Rattle.http_wire.specs.Held.{WholeIs};

@@ -1,6 +1,6 @@
 //! The reader of requests and of what they ask.
 ghost use Rattle.std.specs.Prelude.{◌≡◌, [], IfOk};
-ghost use Rattle.page_units.specs.Outside.{before};
+ghost use Rattle.byte_ports.specs.Streams.{before};
 ghost use Rattle.http_wire.specs.Outcomes.{IsUnfinished};
 ghost use Rattle.http_wire.specs.Incoming.{incoming_of};
 ghost use Rattle.http_wire.specs.Messages.{message_of};

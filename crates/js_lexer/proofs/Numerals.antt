@@ -1,12 +1,14 @@
 -- Each number among what the rules of tokens give is a whole number from 0 to 2^53 - 1.
 use Rattle.std.proofs.Common.{◌≡◌, ℕ, ◌≤◌, Bool, true, false, cond, List, [], ◌∷◌, Option, Some, None, arith}
-use Rattle.std.specs.Prelude.{pos, All, Result, Ok, Err, IfOk}
+use Rattle.std.specs.Prelude.{pos, All, Result, Ok, Err, IfOk, Vec}
+use Rattle.std.specs.declared.alloc.Global.{Global}
 use Rattle.std.specs.Char.{digit_value}
 use Rattle.std.specs.Char.Escape.{encode_utf16}
 use Rattle.std.proofs.lemmas.Bool.Decides.{nat_tests}
 use Rattle.std.proofs.lemmas.Int.{ints}
 use Rattle.std.proofs.lemmas.List.Elements.{All-nil, All-push}
 use Rattle.page_units.specs.Numbers.{greatest_number}
+use Rattle.grammar.specs.Exactly.{Says}
 use Rattle.grammar.specs.Grammar.{done, again}
 use Rattle.grammar.specs.Words.{choice, must, need}
 use Rattle.grammar.specs.Giving.{Gives}
@@ -32,7 +34,7 @@ use Rattle.js_lexer.specs.Numbers.{numeral, digits_go, more_digits, hex_goes, mo
 use Rattle.js_lexer.specs.Texts.{text_goes, text_piece, text}
 use Rattle.js_lexer.specs.Punctuators.{mark, mark_goes, more_mark, punct_of, longest}
 use Rattle.js_lexer.specs.Source.{slash, dot, punctuator, token, begun, element, Lexed, lexed, as_token, goes, put, piece, last, source}
-use Rattle.js_lexer.specs.Tokens.{AreTokens, IsNumeral, Judged}
+use Rattle.js_lexer.specs.Tokens.{AreTokens, IsNumeral, report}
 
 -- ---- what each token may begin
 
@@ -174,6 +176,9 @@ source_gives = λ t. kept any goes piece (lexed [] false) t _ (λ (s : Lexed). O
     (λ s u all. gives_each any last u _ (λ _ _. all))
 
 -- Each number among the tokens of a script is from 0 to 2^53 - 1.
-pub numerals : {A : Type 0} (items : A → List Token) (cs : List ℕ) (Shows : LexFault → Type 0) (res : Result A LexFault) → Judged (λ v. AreTokens cs (items v)) Shows res → IfOk res (λ v. OfTokens (items v))
-numerals items cs Shows (Ok v) judged = gives any source (placed 0 cs) (items v) stop (λ v _. OfTokens v) (λ _ _ _. tt) judged (source_gives _)
-numerals items cs Shows (Err f) judged = tt
+pub numerals : (cs : List ℕ) (tokens : List Token) → AreTokens cs tokens → OfTokens tokens
+numerals cs tokens are = gives any source (placed 0 cs) tokens stop (λ v _. OfTokens v) (λ _ _ _. tt) are (source_gives _)
+
+pub numerals_given : (cs : List ℕ) (Shows : LexFault → Type 0) (res : Result (Vec Token Global) LexFault) → Says (AreTokens cs) Shows (report res) → IfOk res (λ tokens. OfTokens tokens.items)
+numerals_given cs Shows (Ok tokens) are = numerals cs tokens.items are
+numerals_given cs Shows (Err fault) are = tt

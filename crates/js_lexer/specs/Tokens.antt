@@ -1,6 +1,8 @@
 -- What the tokens of a script are, and which fault it shows (ECMA-262 5.1, section 7, with this project's
 -- restrictions).
-use Rattle.std.specs.Prelude.{ℕ, List, Some, Result, Ok, Err, pos, ◌≤ℤ◌}
+use Rattle.std.specs.Prelude.{ℕ, List, Some, Vec, Result, Ok, Err, pos, ◌≤ℤ◌}
+use Rattle.std.specs.declared.alloc.Global.{Global}
+use Rattle.grammar.specs.Exactly.{Report, Value, Fault, OutOfMemory}
 use Rattle.grammar.specs.Grammar.{Derives}
 use Rattle.grammar.specs.Whole.{FaultAt}
 use Rattle.page_units.specs.Numbers.{IsNumber}
@@ -21,11 +23,11 @@ AreTokens cs tokens = Derives source (placed 0 cs) tokens stop
 abbrev pub LexesAs : List ℕ → LexFault → Type 0
 LexesAs cs fault = (rest : List Char) × FaultAt stop source (placed 0 cs) (Some fault) rest
 
--- What a result says is so by these definitions, unless memory was refused.
-abbrev pub Judged : {A : Type 0} → (A → Type 0) → (LexFault → Type 0) → Result A LexFault → Type 0
-Judged Is Shows (Ok tokens) = Is tokens
-Judged Is Shows (Err NoMemory) = Unit {0}
-Judged Is Shows (Err fault) = Shows fault
+-- what reading the tokens reports
+abbrev pub report : Result (Vec Token Global) LexFault → Report (List Token) LexFault
+report (Ok tokens) = Value tokens.items
+report (Err NoMemory) = OutOfMemory
+report (Err fault) = Fault fault
 
 -- A token that is a number is one from 0 to 2^53 - 1.
 abbrev pub IsNumeral : Kind → Type 0

@@ -1,6 +1,7 @@
 //! Reading of a script's input elements, one behind the other (ECMA-262 5.1, section 7).
 ghost use Rattle.std.specs.Prelude.{◌≡◌, ◌++◌, ◌∷◌, ◌≤◌, List, [], length, drop, All, IsTrue, IfOk, OnOk};
 ghost use Rattle.std.specs.Str.{chars};
+ghost use Rattle.grammar.specs.Exactly.{Exactly};
 ghost use Rattle.grammar.specs.Grammar.{first};
 ghost use Rattle.grammar.specs.Reading.{read};
 ghost use Rattle.placed_chars.specs.Chars.{stop};
@@ -11,7 +12,7 @@ ghost use Rattle.js_lexer.specs.Punctuators.{punct_of};
 ghost use Rattle.js_lexer.specs.Source as source;
 ghost use Rattle.js_lexer.specs.Texts as texts;
 ghost use Rattle.js_lexer.specs.Source.{lexed};
-ghost use Rattle.js_lexer.specs.Tokens.{AreTokens, IsNumeral, LexesAs, Judged};
+ghost use Rattle.js_lexer.specs.Tokens.{AreTokens, IsNumeral, LexesAs, report};
 ghost use Rattle.js_lexer.specs.Reads.{Reads, ReadsAs};
 ghost use Rattle.js_lexer.specs.declared.fault.LexFault.{LexFault};
 ghost use Rattle.js_lexer.specs.declared.token.Token.{Token};
@@ -210,8 +211,8 @@ impl<'a> Lexer<'a> {
     }
 }
 
-/// The tokens of a script, in order (ECMA-262 5.1, section 7, in strict code, less what pages may not use).
-/// The source has at most 2^20 bytes.
+/// The tokens of a script, in order, exactly where it has tokens (ECMA-262 5.1, section 7, in strict code, less what pages
+/// may not use). The source has at most 2^20 bytes.
 ///
 /// # Errors
 ///
@@ -219,13 +220,8 @@ impl<'a> Lexer<'a> {
 /// `NoMemory`, where the allocator refused.
 pub fn lex(alloc: Global, source: &str) -> Result<Vec<Token>, LexFault>
     requires { length source.now ≤ 1048576 }
-    // What is given are the script's tokens, and what is refused shows that fault.
-    ensures found { Judged (λ tokens. AreTokens (chars source.now) tokens.items) (LexesAs (chars source.now)) result }
-    // A script that has tokens gives them.
-    ensures only { (tokens : List Token) → AreTokens (chars source.now) tokens
-        → Judged (λ given. given.items ≡ tokens) (λ _. ⊥) result }
-    // A script that shows a fault is refused with it.
-    ensures only_fault { (fault : LexFault) → LexesAs (chars source.now) fault → Judged (λ _. ⊥) (λ given. given ≡ fault) result }
+    ensures exactly { Exactly (AreTokens (chars source.now)) (LexesAs (chars source.now))
+        (report result) }
     // Each number among them is a whole number from 0 to 2^53 - 1.
     ensures numbers { IfOk result (λ tokens. All (λ token. IsNumeral token.kind) tokens.items) }
 {

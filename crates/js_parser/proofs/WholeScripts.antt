@@ -1,18 +1,20 @@
 -- The whole of a script: what is read is its program, and what is refused is its fault.
 use Rattle.std.proofs.Common.{◌≡◌, ℕ, List, [], ◌∷◌, ◌++◌, ◌⊎◌, inl, inr, map, Option, Some, None, refl, sym, ap, subst, ◌∙◌}
 use Rattle.std.specs.Prelude.{Result, Ok, Err, IfOk}
+use Rattle.grammar.specs.Exactly.{Says, Exactly}
 use Rattle.grammar.specs.Grammar.{first}
 use Rattle.grammar.specs.Reading.{Outcome, Got, Bad, read}
+use Rattle.grammar.proofs.Exactly.{says_more, exactly}
+use Rattle.grammar.proofs.OneFault.{one_fault}
 use Rattle.grammar.proofs.Sound.{Sound, sound}
 use Rattle.grammar.proofs.Reader.{all_read, at_fault, only}
 use Rattle.js_lexer.specs.declared.fault.LexFault.{LexFault}
 use Rattle.js_lexer.specs.declared.fault.LexFault.TheVariants as l
 use Rattle.js_lexer.specs.declared.token.Token.{Token}
-use Rattle.js_lexer.specs.Source.{source}
 use Rattle.js_lexer.specs.Tokens.{AreTokens, LexesAs}
 use Rattle.js_lexer.specs.Tokens as lexed
-use Rattle.js_lexer.proofs.Decided.{source_decided}
 use Rattle.js_lexer.proofs.Numerals.{numerals}
+use Rattle.js_lexer.proofs.Whole.{one_list, no_lex_fault, one_lex_fault}
 use Rattle.js_tree.specs.declared.code.Program.{Program}
 use Rattle.js_tree.specs.Valid.{IsValid}
 use Rattle.js_nodes.specs.declared.fault.Fault.{Fault}
@@ -24,29 +26,19 @@ use Rattle.js_nodes.specs.Next.{Next}
 use Rattle.js_cursor.specs.Reads.{Reads, Unfits}
 use Rattle.js_parser.specs.Faults as faults
 use Rattle.js_parser.specs.Sources.{program}
-use Rattle.js_parser.specs.Scripts.{IsProgram, shown, ParseFaultAt, TokensFaultAt, IsScript, ParsesAs, ScriptFaultAt, Judged}
+use Rattle.js_parser.specs.Scripts.{IsProgram, shown, ParseFaultAt, TokensFaultAt, IsScript, ParsesAs, ScriptFaultAt, report}
 use Rattle.js_parser.proofs.DecidedSources.{program_decided}
 use Rattle.js_parser.proofs.ValidSources.{program_valid}
-use Rattle.js_parser.proofs.OneFault.{one_fault}
 
 -- ---- what is said of results
 
--- What follows from what a result says is so too.
-judged_more : {A : Type 0} (Is Is' : A → Type 0) (Shows Shows' : ScriptFault → Type 0) (res : Result A ScriptFault) → ((v : A) → Is v → Is' v) → ((fault : ScriptFault) → Shows fault → Shows' fault) → Judged Is Shows res → Judged Is' Shows' res
-judged_more Is Is' Shows Shows' (Ok v) is shows h = is v h
-judged_more Is Is' Shows Shows' (Err (Lex at)) is shows h = shows (Lex at) h
-judged_more Is Is' Shows Shows' (Err (Syntax at)) is shows h = shows (Syntax at) h
-judged_more Is Is' Shows Shows' (Err (Nesting at)) is shows h = shows (Nesting at) h
-judged_more Is Is' Shows Shows' (Err (LeftOut at)) is shows h = shows (LeftOut at) h
-judged_more Is Is' Shows Shows' (Err NoMemory) is shows h = tt
-
--- A fault that is shown is one that a refusal may tell.
-judged_err : {A : Type 0} (Is : A → Type 0) (Shows : ScriptFault → Type 0) (fault : ScriptFault) → Shows fault → Judged Is Shows (Err fault)
-judged_err Is Shows (Lex at) h = h
-judged_err Is Shows (Syntax at) h = h
-judged_err Is Shows (Nesting at) h = h
-judged_err Is Shows (LeftOut at) h = h
-judged_err Is Shows NoMemory h = tt
+-- A fault that is shown is one that a refusal may report.
+reported_fault : (Is : Program → Type 0) (Shows : ScriptFault → Type 0) (fault : ScriptFault) → Shows fault → Says Is Shows (report (Err fault))
+reported_fault Is Shows (Lex at) h = h
+reported_fault Is Shows (Syntax at) h = h
+reported_fault Is Shows (Nesting at) h = h
+reported_fault Is Shows (LeftOut at) h = h
+reported_fault Is Shows NoMemory h = tt
 
 -- ---- tokens
 
@@ -75,10 +67,10 @@ module _ (end : ℕ) (tokens : List Token) where
       at_end (xs, q, d) = last_behind tokens xs new q over
 
   -- What is read as a fault shows it.
-  pub tokens_shown : (k : Option Fault) (e : ParseError) (ts new : List Next) (g : Fault) (fault : ScriptFault) → ts ≡ map Some tokens → Unfits k e → Reads (read None program ts) (Err e) new → g ≡ shown end k (first new None) → fault ≡ faults.of g → Judged (IsProgram tokens) (TokensFaultAt end tokens) (Err fault)
+  pub tokens_shown : (k : Option Fault) (e : ParseError) (ts new : List Next) (g : Fault) (fault : ScriptFault) → ts ≡ map Some tokens → Unfits k e → Reads (read None program ts) (Err e) new → g ≡ shown end k (first new None) → fault ≡ faults.of g → Says (IsProgram tokens) (TokensFaultAt end tokens) (report (Err fault))
   tokens_shown k e ts new g fault same u h s o =
       let bad = subst (λ (x : List Next). read None program x ≡ Bad k new) same (bad_of k e (read None program ts) new u h) in
-      judged_err (IsProgram tokens) (TokensFaultAt end tokens) fault (g, o, (k, new, at_fault Fault None program (map Some tokens) k new program_decided bad, s))
+      reported_fault (IsProgram tokens) (TokensFaultAt end tokens) fault (g, o, (k, new, at_fault Fault None program (map Some tokens) k new program_decided bad, s))
 
   -- Tokens are at most one program.
   one_program : (p q : Program) → IsProgram tokens p → IsProgram tokens q → p ≡ q
@@ -97,22 +89,11 @@ module _ (end : ℕ) (tokens : List Token) where
 -- ---- characters
 
 module _ (end : ℕ) (cs : List ℕ) where
-  -- A script has at most one list of tokens.
-  one_list : (ts us : List Token) → AreTokens cs ts → AreTokens cs us → ts ≡ us
-  one_list ts us h h' = let c = sym (only LexFault _ source _ ts source_decided h) ∙ only LexFault _ source _ us source_decided h' in cc
-
-  -- What has tokens shows no fault of their form.
-  no_lex_fault : (ts : List Token) (fault : LexFault) → AreTokens cs ts → LexesAs cs fault → ⊥
-  no_lex_fault ts fault h (rest, (front, e, hopes, s, b, none)) = none ts h
-
-  one_lex_fault : (g g' : LexFault) → LexesAs cs g → LexesAs cs g' → g ≡ g'
-  one_lex_fault g g' (rest, h) (rest', h') = let same = (one_fault LexFault _ source _ (Some g) (Some g') rest rest' source_decided h h').0 in cc
-
   -- ---- what is found
 
   -- What the tokens are found to be is what the script is.
-  pub found_parsed : (given tokens : List Token) (res : Result Program ScriptFault) → AreTokens cs given → tokens ≡ given → Judged (IsProgram tokens) (TokensFaultAt end tokens) res → Judged (IsScript cs) (ScriptFaultAt end cs) res
-  found_parsed given tokens res are_given same h = judged_more (IsProgram tokens) (IsScript cs) (TokensFaultAt end tokens) (ScriptFaultAt end cs) res (λ p is. (tokens, are, is)) shows h
+  pub found_parsed : (given tokens : List Token) (res : Result Program ScriptFault) → AreTokens cs given → tokens ≡ given → Says (IsProgram tokens) (TokensFaultAt end tokens) (report res) → Says (IsScript cs) (ScriptFaultAt end cs) (report res)
+  found_parsed given tokens res are_given same h = says_more (IsProgram tokens) (TokensFaultAt end tokens) (IsScript cs) (ScriptFaultAt end cs) (λ p is. (tokens, are, is)) shows (report res) h
     where
       are : AreTokens cs tokens
       are = subst (λ (x : List Token). AreTokens cs x) (sym same) are_given
@@ -126,10 +107,10 @@ module _ (end : ℕ) (cs : List ℕ) where
       shows fault (g, o, k) = subst (λ (x : ScriptFault). ScriptFaultAt end cs x) (sym o) (at_shown g k)
 
   -- What is wrong with the tokens' own form is wrong with the script.
-  pub found_lexed : (fault : LexFault) (told : ScriptFault) → told ≡ faults.of_lexer fault → lexed.Judged (AreTokens cs) (LexesAs cs) (Err fault) → Judged (IsScript cs) (ScriptFaultAt end cs) (Err told)
-  found_lexed fault told o h = subst (λ (x : ScriptFault). Judged (IsScript cs) (ScriptFaultAt end cs) (Err x)) (sym o) (go fault h)
+  pub found_lexed : (fault : LexFault) (told : ScriptFault) → told ≡ faults.of_lexer fault → Says (AreTokens cs) (LexesAs cs) (lexed.report (Err fault)) → Says (IsScript cs) (ScriptFaultAt end cs) (report (Err told))
+  found_lexed fault told o h = subst (λ (x : ScriptFault). Says (IsScript cs) (ScriptFaultAt end cs) (report (Err x))) (sym o) (go fault h)
     where
-      go : (fault : LexFault) → lexed.Judged (AreTokens cs) (LexesAs cs) (Err fault) → Judged (IsScript cs) (ScriptFaultAt end cs) (Err (faults.of_lexer fault))
+      go : (fault : LexFault) → Says (AreTokens cs) (LexesAs cs) (lexed.report (Err fault)) → Says (IsScript cs) (ScriptFaultAt end cs) (report (Err (faults.of_lexer fault)))
       go l.NoMemory h = tt
       go (l.BadChar at) h = h
       go (l.UnclosedText at) h = h
@@ -152,40 +133,36 @@ module _ (end : ℕ) (cs : List ℕ) where
   kinds NoMemory h = absurd h
 
   -- A script with a program shows no fault.
-  script_or_fault : (p : Program) (fault : ScriptFault) → IsScript cs p → ScriptFaultAt end cs fault → ⊥
+  pub script_or_fault : (p : Program) (fault : ScriptFault) → IsScript cs p → ScriptFaultAt end cs fault → ⊥
   script_or_fault p fault (ts, are, is) h =
       elim (kinds fault h) [
-        | inl (g, o, k) ↦ no_lex_fault ts g are k
-        | inr (g, o, (us, are', k)) ↦ no_fault end ts p g is (subst (λ (x : List Token). ParseFaultAt end x g) (one_list us ts are' are) k)
+        | inl (g, o, k) ↦ no_lex_fault cs ts g are k
+        | inr (g, o, (us, are', k)) ↦ no_fault end ts p g is (subst (λ (x : List Token). ParseFaultAt end x g) (one_list cs us ts are' are) k)
       ]
 
   -- A script has at most one program.
-  one_script : (p q : Program) → IsScript cs p → IsScript cs q → p ≡ q
-  one_script p q (ts, are, is) (us, are', is') = one_program end ts p q is (subst (λ (x : List Token). IsProgram x q) (one_list us ts are' are) is')
+  pub one_script : (p q : Program) → IsScript cs p → IsScript cs q → p ≡ q
+  one_script p q (ts, are, is) (us, are', is') = one_program end ts p q is (subst (λ (x : List Token). IsProgram x q) (one_list cs us ts are' are) is')
 
   -- A script shows at most one fault.
-  one_script_fault : (fault fault' : ScriptFault) → ScriptFaultAt end cs fault → ScriptFaultAt end cs fault' → fault ≡ fault'
+  pub one_script_fault : (fault fault' : ScriptFault) → ScriptFaultAt end cs fault → ScriptFaultAt end cs fault' → fault ≡ fault'
   one_script_fault fault fault' h h' = go (kinds fault h) (kinds fault' h')
     where
       go : Kinds fault → Kinds fault' → fault ≡ fault'
-      go (inl (g, o, k)) (inl (g', o', k')) = o ∙ ap (λ (x : LexFault). Lex x) (one_lex_fault g g' k k') ∙ sym o'
-      go (inl (g, o, k)) (inr (g', o', (ts, are, k'))) = absurd (no_lex_fault ts g are k)
-      go (inr (g, o, (ts, are, k))) (inl (g', o', k')) = absurd (no_lex_fault ts g' are k')
-      go (inr (g, o, (ts, are, k))) (inr (g', o', (us, are', k'))) = o ∙ ap (λ (x : Fault). faults.of x) (one_shown end ts g g' k (subst (λ (x : List Token). ParseFaultAt end x g') (one_list us ts are' are) k')) ∙ sym o'
+      go (inl (g, o, k)) (inl (g', o', k')) = o ∙ ap (λ (x : LexFault). Lex x) (one_lex_fault cs g g' k k') ∙ sym o'
+      go (inl (g, o, k)) (inr (g', o', (ts, are, k'))) = absurd (no_lex_fault cs ts g are k)
+      go (inr (g, o, (ts, are, k))) (inl (g', o', k')) = absurd (no_lex_fault cs ts g' are k')
+      go (inr (g, o, (ts, are, k))) (inr (g', o', (us, are', k'))) = o ∙ ap (λ (x : Fault). faults.of x) (one_shown end ts g g' k (subst (λ (x : List Token). ParseFaultAt end x g') (one_list cs us ts are' are) k')) ∙ sym o'
 
   -- ---- what parsing ensures, from what it found
 
-  module _ (res : Result Program ScriptFault) (found : Judged (IsScript cs) (ScriptFaultAt end cs) res) where
-    pub only_given : (p : Program) → IsScript cs p → Judged (λ given. given ≡ p) (λ _. ⊥) res
-    only_given p is = judged_more (IsScript cs) (λ given. given ≡ p) (ScriptFaultAt end cs) (λ _. ⊥) res (λ q is'. one_script q p is' is) (λ fault h. script_or_fault p fault is h) found
-
-    pub only_refused : (fault : ScriptFault) → ScriptFaultAt end cs fault → Judged (λ _. ⊥) (λ given. given ≡ fault) res
-    only_refused fault h = judged_more (IsScript cs) (λ _. ⊥) (ScriptFaultAt end cs) (λ given. given ≡ fault) res (λ q is. script_or_fault q fault is h) (λ fault' h'. one_script_fault fault' fault h' h) found
+  pub parsed_exactly : (res : Result Program ScriptFault) → Says (IsScript cs) (ScriptFaultAt end cs) (report res) → Exactly (IsScript cs) (ScriptFaultAt end cs) (report res)
+  parsed_exactly res = exactly (IsScript cs) (ScriptFaultAt end cs) one_script script_or_fault one_script_fault (report res)
 
   -- Each program of a script is valid.
   script_valid : (p : Program) → IsScript cs p → IsValid p
-  script_valid p (ts, are, is) = program_valid ts p (numerals (λ (x : List Token). x) cs (λ _. ⊥) (Ok ts) are) is
+  script_valid p (ts, are, is) = program_valid ts p (numerals cs ts are) is
 
-  pub valid_given : (res : Result Program ScriptFault) → Judged (IsScript cs) (ScriptFaultAt end cs) res → IfOk res IsValid
+  pub valid_given : (res : Result Program ScriptFault) → Says (IsScript cs) (ScriptFaultAt end cs) (report res) → IfOk res IsValid
   valid_given (Ok p) found = script_valid p found
   valid_given (Err fault) found = tt

@@ -1,5 +1,7 @@
 -- What a script is, and which fault it shows (ECMA-262 5.1, section 14, with this project's restrictions).
 use Rattle.std.specs.Prelude.{◌≡◌, ℕ, List, map, Option, Some, None, Result, Ok, Err}
+use Rattle.grammar.specs.Exactly.{Report, Value, OutOfMemory}
+use Rattle.grammar.specs.Exactly as exact
 use Rattle.grammar.specs.Grammar.{first, Derives}
 use Rattle.grammar.specs.Whole.{FaultAt}
 use Rattle.js_lexer.specs.declared.token.Token.{Token}
@@ -47,8 +49,8 @@ ScriptFaultAt end cs (Nesting at) = ParsesAs end cs (f.Nesting at)
 ScriptFaultAt end cs (LeftOut at) = ParsesAs end cs (f.LeftOut at)
 ScriptFaultAt end cs NoMemory = ⊥
 
--- What a result says is so by these definitions, unless memory was refused.
-abbrev pub Judged : {A : Type 0} → (A → Type 0) → (ScriptFault → Type 0) → Result A ScriptFault → Type 0
-Judged Is Shows (Ok p) = Is p
-Judged Is Shows (Err NoMemory) = Unit {0}
-Judged Is Shows (Err fault) = Shows fault
+-- what parsing reports
+abbrev pub report : Result Program ScriptFault → Report Program ScriptFault
+report (Ok program) = Value program
+report (Err NoMemory) = OutOfMemory
+report (Err fault) = exact.Fault fault

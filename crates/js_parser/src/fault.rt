@@ -6,19 +6,25 @@ ghost use Rattle.js_parser.specs.Faults as faults;
 use js_lexer::LexFault;
 use js_nodes::Fault;
 use std::alloc::AllocError;
+use thiserror::Error;
 
 /// Why a script is none. Places are byte offsets in the source; the end's is the source's length.
-#[derive(Clone, Copy, Debug, PartialEq, Eq)]
+#[derive(Clone, Copy, Debug, PartialEq, Eq, Error)]
 pub enum ScriptFault {
     /// It is no row of tokens.
+    #[error("{0}")]
     Lex(LexFault),
     /// A token, or the end, fits no rule; or a target, a name or a key before it is wrong, at that.
+    #[error("the token at byte {0} fits no rule")]
     Syntax(u32),
     /// A node would have level 129, where it begins.
+    #[error("what begins at byte {0} is nested too deep")]
     Nesting(u32),
     /// A form that is left out of the language.
+    #[error("the form at byte {0} is left out of the language of pages")]
     LeftOut(u32),
     /// The allocator refused; nothing is said of the script.
+    #[error("out of memory")]
     NoMemory,
 }
 

@@ -1,13 +1,14 @@
 //! Whole scripts (ECMA-262 5.1, section 14).
 ghost use Rattle.std.specs.Prelude.{◌≡◌, ◌≤◌, None, length, IfOk, OnOk};
 ghost use Rattle.std.specs.Str.{chars};
+ghost use Rattle.grammar.specs.Exactly.{Says, Exactly};
 ghost use Rattle.grammar.specs.Grammar.{first};
 ghost use Rattle.grammar.specs.Reading.{read};
 ghost use Rattle.js_tree.specs.declared.code.Program.{Program};
 ghost use Rattle.js_tree.specs.Valid.{IsValid};
 ghost use Rattle.js_parser.specs.declared.fault.ScriptFault.{ScriptFault};
 ghost use Rattle.js_parser.specs.Scripts as scripts;
-ghost use Rattle.js_parser.specs.Scripts.{IsProgram, TokensFaultAt, IsScript, ScriptFaultAt, Judged};
+ghost use Rattle.js_parser.specs.Scripts.{IsProgram, TokensFaultAt, IsScript, ScriptFaultAt, report};
 ghost use Rattle.js_parser.specs.Sources as sources;
 ghost use Rattle.js_parser.specs.Sources.{level};
 ghost use Rattle.js_cursor.specs.Reads.{Reads};
@@ -57,7 +58,7 @@ pub(crate) fn program(tokens: &mut Cursor<'_>) -> Result<Program, ParseError>
 
 /// The program of a script's tokens; its end is at this byte.
 fn parse_tokens(alloc: Global, tokens: &[Token], end: u32) -> Result<Program, ScriptFault>
-    ensures { Judged (IsProgram tokens.now) (TokensFaultAt end tokens.now) result }
+    ensures { Says (IsProgram tokens.now) (TokensFaultAt end tokens.now) (report result) }
 {
     let mut tokens = Cursor::new(alloc, tokens);
     match program(&mut tokens) {
@@ -77,13 +78,8 @@ fn parse_tokens(alloc: Global, tokens: &[Token], end: u32) -> Result<Program, Sc
 /// `NoMemory`, where the allocator refused.
 pub fn parse(alloc: Global, source: &str) -> Result<Program, ScriptFault>
     requires { length source.now ≤ 1048576 }
-    // What is given is the script's program, and what is refused shows that fault.
-    ensures found { Judged (IsScript (chars source.now)) (ScriptFaultAt (length source.now) (chars source.now)) result }
-    // A script that has a program gives it.
-    ensures only { (program : Program) → IsScript (chars source.now) program → Judged (λ given. given ≡ program) (λ _. ⊥) result }
-    // A script that shows a fault is refused with it.
-    ensures only_fault { (fault : ScriptFault) → ScriptFaultAt (length source.now) (chars source.now) fault
-        → Judged (λ _. ⊥) (λ given. given ≡ fault) result }
+    ensures exactly { Exactly (IsScript (chars source.now))
+        (ScriptFaultAt (length source.now) (chars source.now)) (report result) }
     // Each program is valid.
     ensures valid { IfOk result IsValid }
 {

@@ -1,2 +1,4 @@
 pub mod Reaching
 pub mod Shown
+pub mod Unique
+pub mod Loaded

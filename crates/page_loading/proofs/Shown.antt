@@ -1,25 +1,28 @@
 -- From the fault of one script to that of loading.
-use Rattle.std.specs.Prelude.{ℕ, Err}
+use Rattle.std.proofs.Common.{◌≡◌, ℕ, List, refl}
+use Rattle.std.specs.Prelude.{Err}
+use Rattle.grammar.specs.Exactly.{Says}
+use Rattle.page_reader.specs.declared.page.ScriptText.{ScriptText}
 use Rattle.js_parser.specs.declared.fault.ScriptFault.{ScriptFault}
 use Rattle.js_parser.specs.declared.fault.ScriptFault.TheVariants as script
 use Rattle.js_parser.specs.Scripts as scripts
 use Rattle.page_loading.specs.declared.fault.LoadFault.{LoadFault}
 use Rattle.page_loading.specs.declared.fault.LoadFault.TheVariants.{Page, Script, NoMemory}
 use Rattle.page_loading.specs.Faults.{of_script}
-use Rattle.page_loading.specs.Loading.{Judged}
+use Rattle.page_loading.specs.Programs.{HasProgram, ShowsFault, FirstFault}
+use Rattle.page_loading.specs.Loading.{ProgramSays, ProgramsSay}
 
--- What is judged of a script's fault is judged of that of loading.
-pub judged_script : {A B : Type 0} (Is : A → Type 0) (Shows : ScriptFault → Type 0) (Are : B → Type 0) (Gives : ℕ → ScriptFault → Type 0) (index : ℕ) (fault : ScriptFault)
-    → ((given : ScriptFault) → Shows given → Gives index given) → scripts.Judged Is Shows (Err fault) → Judged Are Gives (Err (of_script index fault))
-judged_script Is Shows Are Gives index (script.Lex at) gives h = gives (script.Lex at) h
-judged_script Is Shows Are Gives index (script.Syntax at) gives h = gives (script.Syntax at) h
-judged_script Is Shows Are Gives index (script.Nesting at) gives h = gives (script.Nesting at) h
-judged_script Is Shows Are Gives index (script.LeftOut at) gives h = gives (script.LeftOut at) h
-judged_script Is Shows Are Gives index script.NoMemory gives h = tt
+-- A script that was refused as none is reported so.
+pub refused_script : (page : List ℕ) (text : ScriptText) (fault : ScriptFault) → Says (HasProgram page text) (ShowsFault page text) (scripts.report (Err fault)) → ProgramSays page text (Err (of_script text.index fault))
+refused_script page text (script.Lex at) shows = (refl, shows)
+refused_script page text (script.Syntax at) shows = (refl, shows)
+refused_script page text (script.Nesting at) shows = (refl, shows)
+refused_script page text (script.LeftOut at) shows = (refl, shows)
+refused_script page text script.NoMemory shows = tt
 
--- What follows from what is judged of a fault of loading is judged of it too.
-pub judged_more : {A B : Type 0} (Are : A → Type 0) (Shows : ℕ → ScriptFault → Type 0) (Be : B → Type 0) (Gives : ℕ → ScriptFault → Type 0) (fault : LoadFault)
-    → ((index : ℕ) (given : ScriptFault) → Shows index given → Gives index given) → Judged Are Shows (Err fault) → Judged Be Gives (Err fault)
-judged_more Are Shows Be Gives (Page fault) gives h = absurd h
-judged_more Are Shows Be Gives (Script index fault) gives h = gives index fault h
-judged_more Are Shows Be Gives NoMemory gives h = tt
+-- What is reported of one script is reported of all, where it is the first that is none.
+pub refused_scripts : (page : List ℕ) (some : List ScriptText) (text : ScriptText) (fault : LoadFault) → ((index : ℕ) (given : ScriptFault) → index ≡ text.index → ShowsFault page text given → FirstFault page some index given)
+    → ProgramSays page text (Err fault) → ProgramsSay page some (Err fault)
+refused_scripts page some text (Page fault) first says = says
+refused_scripts page some text (Script index fault) first says = first index fault says.0 says.1
+refused_scripts page some text NoMemory first says = tt

@@ -2,16 +2,65 @@
 -- are those of ECMA-262 5.1, section 14).
 use Rattle.std.specs.Prelude.{◌≡◌, ℕ, List, Vec, Result, Ok, Err}
 use Rattle.std.specs.declared.alloc.Global.{Global}
+use Rattle.grammar.specs.Exactly.{Report, Value, Fault, OutOfMemory}
 use Rattle.cell_places.specs.View.{View}
-use Rattle.page_reader.specs.declared.fault.PageFault.TheVariants as page
+use Rattle.tree_shape.specs.Trees.{Trees}
 use Rattle.page_reader.specs.declared.page.ScriptText.{ScriptText}
-use Rattle.page_reader.specs.Page.{IsPageFault}
+use Rattle.page_reader.specs.Page.{IsPage}
+use Rattle.page_reader.specs.Reading as reading
 use Rattle.page_reader.specs.Reading.{ReadsPage}
 use Rattle.js_tree.specs.declared.code.Program.{Program}
 use Rattle.js_parser.specs.declared.fault.ScriptFault.{ScriptFault}
 use Rattle.page_loading.specs.declared.fault.LoadFault.{LoadFault}
 use Rattle.page_loading.specs.declared.fault.LoadFault.TheVariants.{Page, Script, NoMemory}
-use Rattle.page_loading.specs.Programs.{ArePrograms, FirstFault}
+use Rattle.page_loading.specs.Programs as programs
+use Rattle.page_loading.specs.Programs.{HasProgram, ArePrograms, FirstFault}
+
+-- ---- which bytes are loaded
+
+-- The bytes are a page, and its scripts have these programs.
+pub record HasPrograms (bytes : List ℕ) (programs : List Program) : Type 0 where
+  pub trees : Trees
+  pub scripts : List ScriptText
+  pub page : IsPage bytes trees scripts
+  pub have : ArePrograms bytes scripts programs
+
+-- The bytes are a page, and the first of its scripts that is not a program has this number and shows this fault.
+pub record IsScriptFault (bytes : List ℕ) (index : ℕ) (fault : ScriptFault) : Type 0 where
+  pub trees : Trees
+  pub scripts : List ScriptText
+  pub page : IsPage bytes trees scripts
+  pub first : FirstFault bytes scripts index fault
+
+-- The bytes are no page whose scripts have programs, and this is their fault.
+abbrev pub ShowsFault : (bytes : List ℕ) → LoadFault → Type 0
+ShowsFault bytes (Page fault) = reading.ShowsFault bytes fault
+ShowsFault bytes (Script index fault) = IsScriptFault bytes index fault
+ShowsFault bytes NoMemory = ⊥
+
+-- what loading reports
+abbrev pub report : Result (Vec Program Global) LoadFault → Report (List Program) LoadFault
+report (Ok programs) = Value programs.items
+report (Err NoMemory) = OutOfMemory
+report (Err fault) = Fault fault
+
+-- ---- what reading scripts says
+
+-- The program of a script, or that it is none, unless memory was refused.
+abbrev pub ProgramSays : (page : List ℕ) → ScriptText → Result Program LoadFault → Type 0
+ProgramSays page script (Ok program) = HasProgram page script program
+ProgramSays page script (Err (Page fault)) = ⊥
+ProgramSays page script (Err (Script index fault)) = (index ≡ script.index) × programs.ShowsFault page script fault
+ProgramSays page script (Err NoMemory) = Unit {0}
+
+-- The programs of scripts, or the first that is none, unless memory was refused.
+abbrev pub ProgramsSay : (page : List ℕ) → List ScriptText → Result (Vec Program Global) LoadFault → Type 0
+ProgramsSay page scripts (Ok given) = ArePrograms page scripts given.items
+ProgramsSay page scripts (Err (Page fault)) = ⊥
+ProgramsSay page scripts (Err (Script index fault)) = FirstFault page scripts index fault
+ProgramsSay page scripts (Err NoMemory) = Unit {0}
+
+-- ---- what loading does
 
 -- The bytes are a page, its tree was put under the document, and its scripts have these programs.
 pub record ReadsScripts (old new : View) (bytes : List ℕ) (programs : List Program) : Type 0 where
@@ -19,34 +68,10 @@ pub record ReadsScripts (old new : View) (bytes : List ℕ) (programs : List Pro
   pub page : ReadsPage old new bytes scripts
   pub have : ArePrograms bytes scripts programs
 
--- The page and its scripts were read; or the bytes are no page, and nothing was done; or the page's tree was put, and its
--- first script that is not a program shows this fault; or memory was refused.
+-- The page and its scripts were read; or the bytes are no page, and nothing was done; or the page's tree was put, and one of
+-- its scripts is not a program; or memory was refused.
 abbrev pub Loaded : Result (Vec Program Global) LoadFault → (old new : View) → (bytes : List ℕ) → Type 0
 Loaded (Ok programs) old new bytes = ReadsScripts old new bytes programs.items
-Loaded (Err (Page (page.Rule number at))) old new bytes = IsPageFault bytes number at × (new ≡ old)
-Loaded (Err (Page page.NoMemory)) old new bytes = ⊥
-Loaded (Err (Script index fault)) old new bytes = (scripts : List ScriptText) × ReadsPage old new bytes scripts × FirstFault bytes scripts index fault
+Loaded (Err (Page fault)) old new bytes = new ≡ old
+Loaded (Err (Script index fault)) old new bytes = (scripts : List ScriptText) × ReadsPage old new bytes scripts
 Loaded (Err NoMemory) old new bytes = Unit {0}
-
--- What is said of a page's scripts is so, unless memory was refused.
-abbrev pub Judged : {A : Type 0} → (A → Type 0) → (ℕ → ScriptFault → Type 0) → Result A LoadFault → Type 0
-Judged Are Shows (Ok given) = Are given
-Judged Are Shows (Err (Page fault)) = ⊥
-Judged Are Shows (Err (Script index fault)) = Shows index fault
-Judged Are Shows (Err NoMemory) = Unit {0}
-
--- these programs, unless memory was refused
-abbrev pub OnlyPrograms : Result (Vec Program Global) LoadFault → List Program → Type 0
-OnlyPrograms result programs = Judged (λ given. given.items ≡ programs) (λ _ _. ⊥) result
-
--- this fault of the page, unless memory was refused
-abbrev pub OnlyRule : {A : Type 0} → Result A LoadFault → (number at : ℕ) → Type 0
-OnlyRule (Ok given) number at = ⊥
-OnlyRule (Err (Page (page.Rule n a))) number at = (n ≡ number) × (a ≡ at)
-OnlyRule (Err (Page page.NoMemory)) number at = ⊥
-OnlyRule (Err (Script index fault)) number at = ⊥
-OnlyRule (Err NoMemory) number at = Unit {0}
-
--- this fault of a script, unless memory was refused
-abbrev pub OnlyScript : {A : Type 0} → Result A LoadFault → (index : ℕ) → ScriptFault → Type 0
-OnlyScript result index fault = Judged (λ _. ⊥) (λ number given. (number ≡ index) × (given ≡ fault)) result

@@ -14,11 +14,11 @@ use thiserror::Error;
 #[derive(Clone, Copy, Debug, PartialEq, Eq, Error)]
 pub enum LoadFault {
     /// The bytes are not a page: the rule that they break, and the byte at which.
-    #[error("the bytes are not a page")]
+    #[error("{0}")]
     Page(PageFault),
     /// The script of this number, in tree order from 0, is the first that is not a program; why, with
     /// its place as a byte of the script.
-    #[error("script {0} is not a program")]
+    #[error("in script {0}, {1}")]
     Script(u32, ScriptFault),
     /// The allocator refused.
     #[error("out of memory")]

@@ -1,18 +1,13 @@
 //! Loads a page into a heap.
-ghost use Rattle.std.specs.Prelude.{◌≡◌, ◌<◌, ◌+◌, ℕ, List, [], length, IfOk, OnOk, All};
+ghost use Rattle.std.specs.Prelude.{◌≡◌, ◌<◌, ◌+◌, ℕ, [], length, IfOk, OnOk, All};
+ghost use Rattle.grammar.specs.Exactly.{Exactly};
 ghost use Rattle.cell_places.specs.Heap.{children_at, weight_left};
 ghost use Rattle.cell_places.specs.View.{heap};
 ghost use Rattle.cell_places.specs.Rooted.{Rooted};
 ghost use Rattle.cell_places.specs.Start.{document_cell};
 ghost use Rattle.cell_places.specs.Sound.{IsSound, SumsWithin};
-ghost use Rattle.tree_shape.specs.Trees.{Trees};
-ghost use Rattle.page_reader.specs.declared.page.ScriptText.{ScriptText};
-ghost use Rattle.page_reader.specs.Page.{IsPage, IsPageFault};
-ghost use Rattle.js_tree.specs.declared.code.Program.{Program};
 ghost use Rattle.js_tree.specs.Valid.{IsValid};
-ghost use Rattle.js_parser.specs.declared.fault.ScriptFault.{ScriptFault};
-ghost use Rattle.page_loading.specs.Programs.{ArePrograms, FirstFault};
-ghost use Rattle.page_loading.specs.Loading.{Loaded, OnlyPrograms, OnlyRule, OnlyScript};
+ghost use Rattle.page_loading.specs.Loading.{HasPrograms, ShowsFault, report, Loaded};
 
 use crate::fault::LoadFault;
 use crate::programs::programs_of;
@@ -40,19 +35,9 @@ pub fn read_scripts<C: Cells>(
     requires empty { children_at (heap (C.seen cells.old)) document_cell ≡ [] }
     requires room { length (heap (C.seen cells.old)).kinds + weight_left (heap (C.seen cells.old))
         < 3998000000 }
-    // The result is the programs of the page's scripts, or what is wrong with the page or a script.
+    ensures exactly { Exactly (HasPrograms bytes.now) (ShowsFault bytes.now) (report result) }
+    // The page's tree is put under the document, also where a script is not a program.
     ensures loaded { Loaded result (C.seen cells.old) (C.seen cells.new) bytes.now }
-    // A page whose scripts have programs gives them, unless out of memory.
-    ensures only { (trees : Trees) (scripts : List ScriptText) (programs : List Program)
-        → IsPage bytes.now trees scripts → ArePrograms bytes.now scripts programs
-        → OnlyPrograms result programs }
-    // Bytes that break a rule are refused with it, unless out of memory.
-    ensures only_rule { (number at : ℕ) → IsPageFault bytes.now number at
-        → OnlyRule result number at }
-    // A page with a script that is not a program is refused with the first, unless out of memory.
-    ensures only_script { (trees : Trees) (scripts : List ScriptText) (index : ℕ)
-        (fault : ScriptFault) → IsPage bytes.now trees scripts
-        → FirstFault bytes.now scripts index fault → OnlyScript result index fault }
     ensures valid { IfOk result (λ programs. All IsValid programs.items) }
     ensures sound { OnOk result ((codes : ℕ) → IsSound codes (heap (C.seen cells.old))
         → IsSound codes (heap (C.seen cells.new))) }

@@ -1,12 +1,9 @@
 //! The programs of a page's scripts, in order.
-ghost use Rattle.std.specs.Prelude.{◌≡◌, ◌≤◌, ℕ, List, length, IfOk, All};
+ghost use Rattle.std.specs.Prelude.{◌≤◌, length, IfOk, All};
 ghost use Rattle.page_reader.specs.Bounds.{page_bytes};
 ghost use Rattle.page_reader.specs.Texts.{IsText};
-ghost use Rattle.js_tree.specs.declared.code.Program.{Program};
 ghost use Rattle.js_tree.specs.Valid.{IsValid};
-ghost use Rattle.js_parser.specs.declared.fault.ScriptFault.{ScriptFault};
-ghost use Rattle.page_loading.specs.Programs.{HasProgram, ShowsFault, ArePrograms, FirstFault};
-ghost use Rattle.page_loading.specs.Loading.{Judged, OnlyPrograms, OnlyScript};
+ghost use Rattle.page_loading.specs.Loading.{ProgramSays, ProgramsSay};
 
 use crate::fault::LoadFault;
 use js_parser::parse;
@@ -27,13 +24,7 @@ pub(crate) fn programs_of(
 ) -> Result<Vec<Program>, LoadFault>
     requires few { length page.now ≤ page_bytes }
     requires texts { All (IsText page.now) scripts.now }
-    // The result is the scripts' programs, or the first script that is not one.
-    ensures found { Judged (λ given. ArePrograms page.now scripts.now given.items)
-        (FirstFault page.now scripts.now) result }
-    ensures only { (programs : List Program) → ArePrograms page.now scripts.now programs
-        → OnlyPrograms result programs }
-    ensures only_fault { (index : ℕ) (fault : ScriptFault)
-        → FirstFault page.now scripts.now index fault → OnlyScript result index fault }
+    ensures says { ProgramsSay page.now scripts.now result }
     ensures valid { IfOk result (λ programs. All IsValid programs.items) }
 {
     let mut programs = Vec::new(alloc);
@@ -48,12 +39,7 @@ pub(crate) fn programs_of(
 fn program_of(alloc: Global, page: &str, script: ScriptText) -> Result<Program, LoadFault>
     requires few { length page.now ≤ page_bytes }
     requires text { IsText page.now script }
-    ensures found { Judged (HasProgram page.now script)
-        (λ number fault. (number ≡ script.index) × ShowsFault page.now script fault) result }
-    ensures only { (program : Program) → HasProgram page.now script program
-        → Judged (λ given. given ≡ program) (λ _ _. ⊥) result }
-    ensures only_fault { (fault : ScriptFault) → ShowsFault page.now script fault
-        → OnlyScript result script.index fault }
+    ensures says { ProgramSays page.now script result }
     ensures valid { IfOk result IsValid }
 {
     match parse(alloc, &page[script.at as usize..script.end as usize]) {

@@ -1,18 +1,25 @@
 -- Laws of pages: what begins no page is the front of none, and no bytes show two faults or are a page with one.
 use Rattle.std.proofs.Common.{◌≡◌, ℕ, inl, inr, List, [], ◌∷◌, ◌++◌, Some, sym, ap, subst, ◌∙◌, arith}
+use Rattle.std.specs.Prelude.{Result, Err}
 use Rattle.std.specs.Str.{chars}
 use Rattle.tree_shape.specs.Trees.{Trees}
+use Rattle.grammar.specs.Exactly.{Says, Exactly}
 use Rattle.grammar.specs.Grammar.{Derives}
+use Rattle.grammar.proofs.Exactly.{exactly}
 use Rattle.grammar.proofs.Reader.{continued, only, only_bad}
 use Rattle.placed_chars.specs.declared.chars.Char.{Char}
 use Rattle.placed_chars.specs.Chars.{placed, stop}
 use Rattle.page_reader.specs.declared.fault.Fault.{Fault}
+use Rattle.page_reader.specs.declared.fault.PageFault.{PageFault}
+use Rattle.page_reader.specs.declared.fault.PageFault.TheVariants.{Rule, NoMemory}
+use Rattle.page_reader.specs.declared.page.PageParts.{PageParts}
 use Rattle.page_reader.specs.declared.page.ScriptText.{ScriptText}
 use Rattle.page_reader.specs.Faults.{rule_number}
 use Rattle.page_reader.specs.NodeTrees.{trees_of}
 use Rattle.page_reader.specs.Content.{Found, found}
 use Rattle.page_reader.specs.PageForm.{page}
 use Rattle.page_reader.specs.Page.{IsPage, IsPageFault, BeginsPage, Breaks, HasFault, levels_below, numbered}
+use Rattle.page_reader.specs.Reading.{TreeRead, HasScripts, ShowsFault, report}
 use Rattle.page_reader.proofs.Decided.{page_decided}
 use Rattle.page_reader.proofs.WholePages.{refused}
 
@@ -60,3 +67,25 @@ pub one_page : (bytes : List ℕ) (trees trees' : Trees) (scripts scripts' : Lis
 one_page bytes trees trees' scripts scripts' p q =
     let same = one_found bytes (found p.node p.slices) (found q.node q.slices) p.form q.form in
     (p.tree ∙ (ap (λ (v : Found). trees_of (v.node ∷ [])) same ∙ sym q.tree), p.parts ∙ (ap (λ (v : Found). numbered 0 v.scripts) same ∙ sym q.parts))
+
+-- ---- what reading a page reports
+
+one_scripts : (bytes : List ℕ) (scripts scripts' : List ScriptText) → HasScripts bytes scripts → HasScripts bytes scripts' → scripts ≡ scripts'
+one_scripts bytes scripts scripts' (trees, p) (trees', q) = (one_page bytes trees trees' scripts scripts' p q).1
+
+pub scripts_or_fault : (bytes : List ℕ) (scripts : List ScriptText) (fault : PageFault) → HasScripts bytes scripts → ShowsFault bytes fault → ⊥
+scripts_or_fault bytes scripts (Rule number at) (trees, p) shows = page_or_fault bytes trees scripts number at p shows
+scripts_or_fault bytes scripts NoMemory (trees, p) shows = shows
+
+pub same_fault : (bytes : List ℕ) (f g : PageFault) → ShowsFault bytes f → ShowsFault bytes g → f ≡ g
+same_fault bytes (Rule n a) (Rule m b) p q = let same = one_fault bytes n a m b p q in ap (λ (x : ℕ). Rule x a) same.0 ∙ ap (λ (x : ℕ). Rule m x) same.1
+same_fault bytes (Rule n a) NoMemory p q = absurd q
+same_fault bytes NoMemory g p q = absurd p
+
+pub reported : (bytes : List ℕ) (result : Result PageParts PageFault) → Says (HasScripts bytes) (ShowsFault bytes) (report result) → Exactly (HasScripts bytes) (ShowsFault bytes) (report result)
+reported bytes result = exactly (HasScripts bytes) (ShowsFault bytes) (one_scripts bytes) (scripts_or_fault bytes) (same_fault bytes) (report result)
+
+-- a tree that wasn't read
+pub reported_fault : (bytes : List ℕ) (fault : PageFault) → TreeRead (Err fault) bytes → Exactly (HasScripts bytes) (ShowsFault bytes) (report (Err fault))
+reported_fault bytes (Rule number at) shows = reported bytes (Err (Rule number at)) shows
+reported_fault bytes NoMemory says = reported bytes (Err NoMemory) tt

@@ -1,6 +1,6 @@
 -- The whole page: what is read is the page, and where a rule is broken there is no page.
-use Rattle.std.proofs.Common.{◌≡◌, ◌<◌, ◌≤◌, ℕ, ◌+◌, inl, inr, List, [], ◌∷◌, length, Some, refl, sym, ap, ◌∙◌, arith}
-use Rattle.std.specs.Prelude.{Result, Err, IsUtf8}
+use Rattle.std.proofs.Common.{◌≡◌, ◌<◌, ◌≤◌, ℕ, ◌+◌, inl, inr, List, [], ◌∷◌, length, Some, refl, ap, arith}
+use Rattle.std.specs.Prelude.{Err, IsUtf8}
 use Rattle.std.specs.Char.{len_utf8}
 use Rattle.std.specs.Str.{chars}
 use Rattle.std.specs.Str.Lossy.{utf8_valid_len}
@@ -9,7 +9,7 @@ use Rattle.tree_shape.specs.Trees.{Trees, HaveNamesOnce}
 use Rattle.tree_shape.specs.Trees as t
 use Rattle.grammar.specs.Grammar.{Derives}
 use Rattle.grammar.specs.Reading.{Outcome, Got, Bad, read}
-use Rattle.grammar.proofs.Reader.{all_read, at_fault, only_bad, only_fault}
+use Rattle.grammar.proofs.Reader.{all_read, at_fault, only_fault}
 use Rattle.placed_chars.specs.declared.chars.Char.{Char}
 use Rattle.placed_chars.specs.Chars.{placed, stop}
 use Rattle.page_reader.specs.declared.fault.Fault.{Fault}
@@ -20,23 +20,19 @@ use Rattle.page_reader.specs.declared.fault.ReadError.TheVariants as errors
 use Rattle.page_reader.specs.declared.node.Node.{Node}
 use Rattle.page_reader.specs.declared.node.Slice.{Slice}
 use Rattle.page_reader.specs.declared.page.ScriptText.{ScriptText}
-use Rattle.page_reader.specs.declared.whole.PageTree.{PageTree}
 use Rattle.page_reader.specs.Faults.{rule_number, fault_of}
 use Rattle.page_reader.specs.NodeTrees.{trees_of}
 use Rattle.page_reader.specs.Planting.{node_count}
 use Rattle.page_reader.specs.Content.{Found, found}
 use Rattle.page_reader.specs.PageForm.{page}
 use Rattle.page_reader.specs.Page.{IsPage, IsPageFault, Breaks, HasFault, page_bytes, levels_below, numbered}
-use Rattle.page_reader.specs.Reading.{TreeRead, NoFault, OnlyFault}
+use Rattle.page_reader.specs.Reading.{TreeRead}
 use Rattle.page_reader.specs.Reads.{ReadsAs}
 use Rattle.page_reader.proofs.Decided.{page_decided}
 use Rattle.page_reader.proofs.Nodes.{page_sized}
 
 abbrev pub reading : List ℕ → Outcome Char Fault Found
 reading bytes = read stop (page levels_below) (placed 0 (chars bytes))
-
-abbrev failed : PageFault → Result PageTree PageFault
-failed f = Err f
 
 -- ---- what is read
 
@@ -65,11 +61,6 @@ fault_found bytes (errors.Page g) f rest A value few utf8 h e = rw e (record {
   breaks = inr (inr (few, utf8, (rest, at_fault Fault stop (page levels_below) (placed 0 (chars bytes)) (Some g) rest (page_decided levels_below) h)));
 })
 
-pub fault_only : (bytes : List ℕ) (e : ReadError) (f : PageFault) (rest : List Char) (A : Type 0) (value : A → Found) → ReadsAs value (reading bytes) (Err e) rest → f ≡ fault_of e
-    → (trees : Trees) (scripts : List ScriptText) → IsPage bytes trees scripts → NoFault (failed f)
-fault_only bytes errors.Memory f rest A value h e trees scripts p = rw e tt
-fault_only bytes (errors.Page g) f rest A value h e trees scripts p = absurd (only_bad Fault stop (page levels_below) (placed 0 (chars bytes)) (found p.node p.slices) (Some g) rest (page_decided levels_below) p.form h)
-
 -- of a text that isn't too long, only the form can be broken
 form_broken : (bytes : List ℕ) (f : Fault) → length bytes ≤ page_bytes → IsUtf8 bytes → Breaks bytes f → HasFault (chars bytes) f
 form_broken bytes f few utf8 (inl (long, e)) = absurd (omega arith)
@@ -79,19 +70,6 @@ form_broken bytes f few utf8 (inr (inr (few', utf8', h))) = h
 -- reading ends with the fault that the characters have
 pub refused : (bytes : List ℕ) (f : Fault) (h : HasFault (chars bytes) f) → reading bytes ≡ Bad (Some f) h.0
 refused bytes f h = only_fault Fault stop (page levels_below) (placed 0 (chars bytes)) f h.0 (page_decided levels_below) h.1
-
-pub fault_same : (bytes : List ℕ) (e : ReadError) (f : PageFault) (rest : List Char) (A : Type 0) (value : A → Found) → length bytes ≤ page_bytes → IsUtf8 bytes → ReadsAs value (reading bytes) (Err e) rest → f ≡ fault_of e
-    → (number at : ℕ) → IsPageFault bytes number at → OnlyFault (failed f) number at
-fault_same bytes errors.Memory f rest A value few utf8 h e number at p = rw e tt
-fault_same bytes (errors.Page g) f rest A value few utf8 h e number at p =
-    let c = sym h ∙ refused bytes (record { rule = p.rule; at = at }) (form_broken bytes (record { rule = p.rule; at = at }) few utf8 p.breaks) in
-    let same : g ≡ record { rule = p.rule; at = at } = cc in
-    rw e (ap (λ (x : Fault). rule_number x.rule) same ∙ sym p.numbered, ap (λ (x : Fault). x.at) same)
-
--- What is read shows no fault.
-pub read_no_fault : (bytes : List ℕ) (v : Found) (rest : List Char) → length bytes ≤ page_bytes → IsUtf8 bytes → reading bytes ≡ Got v rest → (number at : ℕ) → IsPageFault bytes number at → ⊥
-read_no_fault bytes v rest few utf8 h number at p =
-    let c = sym h ∙ refused bytes (record { rule = p.rule; at = at }) (form_broken bytes (record { rule = p.rule; at = at }) few utf8 p.breaks) in absurd cc
 
 -- ---- the tests before the form
 

@@ -1,5 +1,6 @@
 -- What reading a page did.
 use Rattle.std.specs.Prelude.{◌≡◌, ℕ, List, [], ◌∷◌, Result, Ok, Err}
+use Rattle.grammar.specs.Exactly.{Report, Value, Fault, OutOfMemory}
 use Rattle.cell_places.specs.View.{View, heap, run}
 use Rattle.cell_places.specs.Start.{document_cell}
 use Rattle.tree_shape.specs.Trees.{Trees}
@@ -27,17 +28,20 @@ PageRead (Ok parts) old new bytes = ReadsPage old new bytes parts.scripts.items
 PageRead (Err (Rule number at)) old new bytes = IsPageFault bytes number at × (new ≡ old)
 PageRead (Err NoMemory) old new bytes = Unit {0}
 
--- no fault of the page
-abbrev pub NoFault : {A : Type 0} → Result A PageFault → Type 0
-NoFault (Ok parts) = Unit {0}
-NoFault (Err (Rule number at)) = ⊥
-NoFault (Err NoMemory) = Unit {0}
+-- The bytes are a page with these scripts.
+abbrev pub HasScripts : (bytes : List ℕ) → List ScriptText → Type 0
+HasScripts bytes scripts = (trees : Trees) × IsPage bytes trees scripts
 
--- this fault, unless memory was refused
-abbrev pub OnlyFault : {A : Type 0} → Result A PageFault → ℕ → ℕ → Type 0
-OnlyFault (Ok parts) number at = ⊥
-OnlyFault (Err (Rule n a)) number at = (n ≡ number) × (a ≡ at)
-OnlyFault (Err NoMemory) number at = Unit {0}
+-- The bytes are no page, and this is their fault.
+abbrev pub ShowsFault : (bytes : List ℕ) → PageFault → Type 0
+ShowsFault bytes (Rule number at) = IsPageFault bytes number at
+ShowsFault bytes NoMemory = ⊥
+
+-- what reading a page reports
+abbrev pub report : Result PageParts PageFault → Report (List ScriptText) PageFault
+report (Ok parts) = Value parts.scripts.items
+report (Err NoMemory) = OutOfMemory
+report (Err fault) = Fault fault
 
 -- The bytes are a page with this tree and these scripts, or show this fault, or memory was refused.
 abbrev pub TreeRead : Result PageTree PageFault → List ℕ → Type 0

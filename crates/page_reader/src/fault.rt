@@ -6,6 +6,7 @@ ghost use Rattle.page_reader.specs.Faults.{rule_number, fault_of};
 
 use page_units::NoMemory;
 use std::alloc::{AllocError, AllocFailed};
+use thiserror::Error;
 
 /// A rule of the page form that a page can break (this project's own page form).
 #[derive(Debug, Clone, Copy, PartialEq, Eq)]
@@ -54,12 +55,14 @@ impl PageRule {
 }
 
 /// Why no page was read.
-#[derive(Debug, Clone, Copy, PartialEq, Eq)]
+#[derive(Debug, Clone, Copy, PartialEq, Eq, Error)]
 pub enum PageFault {
     /// The bytes are no page: the number of the rule that they break, from 1 to 10, and the byte
     /// at which, from 0. Nothing was changed.
+    #[error("the page breaks rule {0} at byte {1}")]
     Rule(u32, u32),
     /// Memory was refused. The heap is to be given up.
+    #[error("out of memory")]
     NoMemory,
 }
 

@@ -1,5 +1,6 @@
 //! Reads a page into a heap.
 ghost use Rattle.std.specs.Prelude.{◌≡◌, ◌<◌, ◌+◌, ℕ, List, [], length, IfOk, OnOk, All};
+ghost use Rattle.grammar.specs.Exactly.{Exactly};
 ghost use Rattle.cell_places.specs.Heap.{children_at, weight_left};
 ghost use Rattle.cell_places.specs.View.{heap};
 ghost use Rattle.cell_places.specs.Rooted.{Rooted};
@@ -7,8 +8,8 @@ ghost use Rattle.cell_places.specs.Start.{document_cell};
 ghost use Rattle.cell_places.specs.Sound.{IsSound, SumsWithin};
 ghost use Rattle.tree_shape.specs.Trees.{Trees};
 ghost use Rattle.page_reader.specs.declared.page.ScriptText.{ScriptText};
-ghost use Rattle.page_reader.specs.Page.{IsPage, IsPageFault};
-ghost use Rattle.page_reader.specs.Reading.{PageRead, NoFault, OnlyFault};
+ghost use Rattle.page_reader.specs.Page.{IsPage};
+ghost use Rattle.page_reader.specs.Reading.{PageRead, HasScripts, ShowsFault, report};
 ghost use Rattle.page_reader.specs.Texts.{IsText};
 
 use crate::fault::PageFault;
@@ -47,17 +48,13 @@ pub fn read_page<C: Cells>(
     requires empty { children_at (heap (C.seen cells.old)) document_cell ≡ [] }
     requires room { length (heap (C.seen cells.old)).kinds + weight_left (heap (C.seen cells.old))
         < 3998000000 }
-    // What is read is the page, and a fault is that of the bytes.
+    ensures exactly { Exactly (HasScripts bytes.now) (ShowsFault bytes.now) (report result) }
+    // What is read is put under the document, and a fault changes nothing.
     ensures page { PageRead result (C.seen cells.old) (C.seen cells.new) bytes.now }
-    // What is a page is read.
-    ensures only { (trees : Trees) (scripts : List ScriptText) → IsPage bytes.now trees scripts
-        → NoFault result }
     // A page has one tree and one list of scripts.
     ensures one { (trees trees' : Trees) (scripts scripts' : List ScriptText)
         → IsPage bytes.now trees scripts
         → IsPage bytes.now trees' scripts' → (trees ≡ trees') × (scripts ≡ scripts') }
-    // What shows a fault is refused with it.
-    ensures only_fault { (rule at : ℕ) → IsPageFault bytes.now rule at → OnlyFault result rule at }
     // Each script is whole characters of the page.
     ensures texts { IfOk result (λ parts. All (IsText bytes.now) parts.scripts.items) }
     ensures sound { OnOk result ((codes : ℕ) → IsSound codes (heap (C.seen cells.old))

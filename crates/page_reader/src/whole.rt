@@ -8,9 +8,9 @@ ghost use Rattle.placed_chars.specs.Chars.{placed, stop};
 ghost use Rattle.page_reader.specs.declared.page.ScriptText.{ScriptText};
 ghost use Rattle.page_reader.specs.Content.{found};
 ghost use Rattle.page_reader.specs.Page as pages;
-ghost use Rattle.page_reader.specs.Page.{IsPage, IsPageFault, levels_below};
+ghost use Rattle.page_reader.specs.Page.{levels_below};
 ghost use Rattle.page_reader.specs.PageForm.{page};
-ghost use Rattle.page_reader.specs.Reading.{TreeRead, NoFault, OnlyFault};
+ghost use Rattle.page_reader.specs.Reading.{TreeRead};
 ghost use Rattle.page_reader.specs.Reads.{ReadsAs};
 
 use crate::fault::{PageFault, PageRule, ReadError};
@@ -34,10 +34,7 @@ const LEVELS_BELOW: u8 = 127;
 
 /// The page that the bytes are, or the rule that they break.
 pub fn read_tree(alloc: Global, bytes: &[u8]) -> Result<PageTree, PageFault>
-    ensures found { TreeRead result bytes.now }
-    ensures only { (trees : Trees) (scripts : List ScriptText) → IsPage bytes.now trees scripts
-        → NoFault result }
-    ensures only_fault { (rule at : ℕ) → IsPageFault bytes.now rule at → OnlyFault result rule at }
+    ensures { TreeRead result bytes.now }
 {
     if PAGE_BYTES < bytes.len() {
         return Err(PageFault::Rule(PageRule::TooLong.number(), PAGE_BYTES as u32));
@@ -51,10 +48,7 @@ pub fn read_tree(alloc: Global, bytes: &[u8]) -> Result<PageTree, PageFault>
 /// The page that a text is, or the rule that it breaks.
 fn read_text(alloc: Global, text: &str) -> Result<PageTree, PageFault>
     requires { length text.now ≤ PAGE_BYTES }
-    ensures found { TreeRead result text.now }
-    ensures only { (trees : Trees) (scripts : List ScriptText) → IsPage text.now trees scripts
-        → NoFault result }
-    ensures only_fault { (rule at : ℕ) → IsPageFault text.now rule at → OnlyFault result rule at }
+    ensures { TreeRead result text.now }
 {
     let mut slices = Items::new(alloc);
     match read_characters(alloc, text, &mut slices) {

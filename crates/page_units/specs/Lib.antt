@@ -3,9 +3,6 @@ pub mod Coding
 pub mod Digits
 pub mod Limits
 pub mod LimitsOf
-pub mod Memory
 pub mod Metered
 pub mod Numbers
-pub mod Outside
-pub mod Shelves
 pub mod Texts

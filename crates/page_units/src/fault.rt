@@ -1,19 +1,22 @@
 //! What ends a call before its end.
+pub use byte_ports::NoMemory;
 use std::alloc::AllocError;
-
-/// Memory was refused: the one answer that no clause ties to a cause.
-pub type NoMemory = AllocError;
+use thiserror::Error;
 
 /// What ends a run of page code before its end.
-#[derive(Drop, Clone, Debug, PartialEq, Eq)]
+#[derive(Drop, Clone, Debug, PartialEq, Eq, Error)]
 pub enum RunFault {
     /// A step more than the bound of the task.
+    #[error("a task took more steps than its bound")]
     Steps,
     /// A weight more than the heap's limit.
+    #[error("the page is heavier than its bound")]
     Weight,
     /// An evaluation deeper than the bound.
+    #[error("an evaluation went deeper than its bound")]
     Depth,
     /// Memory was refused.
+    #[error("out of memory")]
     NoMemory,
 }
 

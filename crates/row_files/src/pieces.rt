@@ -1,6 +1,6 @@
 //! How the bytes of a source in memory come.
 ghost use Rattle.std.specs.Prelude.{◌<◌, IsTrue, IfOk};
-ghost use Rattle.page_units.specs.Memory.{are_pieces};
+ghost use Rattle.byte_ports.specs.Memory.{are_pieces};
 
 use std::alloc::{AllocError, Global};
 

@@ -2,9 +2,9 @@
 use Rattle.std.proofs.Common.{◌≡◌, ℕ, ◌+◌, suc, zero, List, [], ◌∷◌, ◌++◌, length, take, Option, Some, None, Result, Ok, Err, refl, ap, sym, ◌∙◌, append_assoc}
 use Rattle.std.proofs.Math.Seq.{take-append-add}
 use Rattle.std.specs.declared.alloc.AllocError.{AllocError}
-use Rattle.page_units.specs.Outside.{after, OnAll}
-use Rattle.page_units.specs.declared.sink.Wrote.{Wrote}
-use Rattle.page_units.specs.declared.sink.Wrote.TheVariants as wrote
+use Rattle.byte_ports.specs.Streams.{after, OnAll}
+use Rattle.byte_ports.specs.declared.sink.Wrote.{Wrote}
+use Rattle.byte_ports.specs.declared.sink.Wrote.TheVariants as wrote
 
 after_after : (t : Option (List ℕ)) (xs ys : List ℕ) → after (after t xs) ys ≡ after t (xs ++ ys)
 after_after None xs ys = refl

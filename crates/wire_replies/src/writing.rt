@@ -1,13 +1,13 @@
 //! Replies into a sink.
 ghost use Rattle.std.specs.Prelude.{◌≡◌, ◌++◌, ℕ, [], true, take, IfOk, string_bytes, unwrap_or};
 ghost use Rattle.http.specs.StatusCode.{reason_phrase};
-ghost use Rattle.page_units.specs.Outside.{after, Rose, OnAll, OnCutOff, OnNotCutOff};
+ghost use Rattle.byte_ports.specs.Streams.{after, Rose, OnAll, OnCutOff, OnNotCutOff};
 ghost use Rattle.wire_replies.specs.ReplyBytes.{IsReply, is_reply_code, reply_bytes, allow_line, close_line, media_type};
 
 use crate::reply::Reply;
 use http::StatusCode;
 use page_units::fault::NoMemory;
-use page_units::sink::{Sink, Wrote, write_all};
+use page_units::{Sink, Wrote, write_all};
 use std::alloc::Global;
 use wire_asks::Asks;
 

@@ -1,6 +1,6 @@
 //! What the wire tells of streams, however they come.
 ghost use Rattle.std.specs.Prelude.{◌<◌, IsTrue, IfOk};
-ghost use Rattle.page_units.specs.Memory.{are_pieces};
+ghost use Rattle.byte_ports.specs.Memory.{are_pieces};
 
 use crate::told::told;
 use http_wire::{Incoming, Next, Wire};

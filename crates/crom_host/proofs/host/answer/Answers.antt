@@ -2,6 +2,7 @@ use Rattle.std.proofs.lemmas.Result.{IfOk-weaker}
 use Rattle.crom_host.specs.Replying.{refused}
 use Rattle.crom_host.specs.Plain as p
 use Rattle.crom_host.proofs.Obeying.{answered_so}
+use Rattle.crom_host.proofs.Replied.{is_of}
 use Rattle.crom_host.proofs.host.answer.Goals as goal
 
 pub returns-in-Ok-clause-answered : goal.returns-in-Ok-clause-answered
@@ -10,4 +11,6 @@ returns-in-Ok-clause-answered c =
 
 pub returns-in-Err-clause-answered : goal.returns-in-Err-clause-answered
 returns-in-Err-clause-answered c =
-    IfOk-weaker c.refused.result _ _ (λ reply is. (refused c.in-Err.refusal, answered_so _ _ _ _ _ _ c.in-Err.is (p.refusal _ _), is)) c.refused.ensures.is
+    let made = c.refusal_reply.ensures in
+    IfOk-weaker c.refusal_reply.result _ _ (λ reply is. (refused c.in-Err.refusal, answered_so _ _ _ _ _ _ c.in-Err.is (p.refusal _ _), is))
+    (is_of c.refusal_reply.result (refused c.in-Err.refusal) made.status made.html made.allow made.body)

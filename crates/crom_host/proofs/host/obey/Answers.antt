@@ -3,6 +3,7 @@ use Rattle.std.proofs.lemmas.Result.{IfOk-weaker}
 use Rattle.crom_host.specs.Replying.{halted, not_built}
 use Rattle.crom_host.specs.Plain as p
 use Rattle.crom_host.proofs.Obeying.{step_same}
+use Rattle.crom_host.proofs.Replied.{is_of}
 use Rattle.crom_host.proofs.host.obey.Goals as goal
 
 pub returns-in-Dom-clause-step : goal.returns-in-Dom-clause-step
@@ -15,7 +16,9 @@ returns-in-Node-clause-step c =
 
 pub returns-in-Halt-clause-step : goal.returns-in-Halt-clause-step
 returns-in-Halt-clause-step c =
-    IfOk-weaker c.halted.result _ _ (λ reply is. (halted, step_same _ _ _ _ _ _ c.in-Halt.is refl (p.halt _), is)) c.halted.ensures.is
+    let made = c.halted_reply.ensures in
+    IfOk-weaker c.halted_reply.result _ _ (λ reply is. (halted, step_same _ _ _ _ _ _ c.in-Halt.is refl (p.halt _), is))
+    (is_of c.halted_reply.result halted made.status made.html made.allow made.body)
 
 pub returns-in-Load-clause-step : goal.returns-in-Load-clause-step
 returns-in-Load-clause-step c =

@@ -9,7 +9,8 @@ use Rattle.dom_tree.specs.Ids.{Finds}
 use Rattle.http_wire.specs.Refusal.TheVariants.{NoTarget}
 use Rattle.crom_host.specs.Replying.{refused}
 use Rattle.crom_host.specs.Plain as p
-use Rattle.crom_host.specs.Plain.{default_settings, Serves}
+use Rattle.crom_host.specs.Plain.{settings_of, Serves}
+use Rattle.crom_host.proofs.Replied.{is_of}
 use Rattle.crom_host.proofs.host.serve_element.Goals as goal
 
 pub returns-in-Some-clause-step : goal.returns-in-Some-clause-step
@@ -21,7 +22,7 @@ returns-in-Some-clause-step c =
     let visited = c.in_ok-element.field-0.visited in
     let found = subst (λ (z : Option CellName). Finds H c.args.id.now z visited finds.0) c.in-Some.is finds.1 in
     IfOk-weaker c.serve.result _ _
-    (λ reply s. (s.0, p.found c.in-Some.element visited finds.0 s.0 found (subst (λ (K : Heap). Serves default_settings K c.in-Some.element s.0) same s.1), s.2))
+    (λ reply s. (s.0, p.found c.in-Some.element visited finds.0 s.0 found (subst (λ (K : Heap). Serves (settings_of c.args.limits.now) K c.in-Some.element s.0) same s.1), s.2))
     c.serve.ensures.serves
 
 pub returns-in-None-clause-step : goal.returns-in-None-clause-step
@@ -30,4 +31,6 @@ returns-in-None-clause-step c =
     let finds = c.in_ok-element.ensures.finds in
     let visited = c.in_ok-element.field-0.visited in
     let none = subst (λ (z : Option CellName). Finds H c.args.id.now z visited finds.0) c.in-None.is finds.1 in
-    IfOk-weaker c.refused.result _ _ (λ reply is. (refused NoTarget, p.none visited finds.0 none, is)) c.refused.ensures.is
+    let made = c.refusal_reply.ensures in
+    IfOk-weaker c.refusal_reply.result _ _ (λ reply is. (refused NoTarget, p.none visited finds.0 none, is))
+    (is_of c.refusal_reply.result (refused NoTarget) made.status made.html made.allow made.body)

@@ -1,12 +1,12 @@
 use Rattle.std.proofs.Common.{◌≡◌, ◌<◌, ◌≤◌, ◌+◌, ℕ, true, false, List, take, refl, sym, subst, ap, ◌∙◌, arith}
 use Rattle.std.proofs.lemmas.Result.{err_from_is_err_and}
-use Rattle.page_units.specs.Outside.{before, after}
+use Rattle.byte_ports.specs.Streams.{before, after}
 use Rattle.page_units.specs.declared.limits.Limit.TheVariants.{Served}
-use Rattle.page_units.specs.Limits.{default_limit}
+use Rattle.page_units.specs.LimitsOf.{number_of}
 use Rattle.cell_places.specs.Sound.{IsSound}
 use Rattle.cell_heap.specs.Base.{heap_of}
 use Rattle.crom_host.specs.Replying.{bytes_of}
-use Rattle.crom_host.specs.Plain.{default_settings, hosted, is_halt, ending_of, closed}
+use Rattle.crom_host.specs.Plain.{settings_of, hosted, is_halt, ending_of, closed}
 use Rattle.crom_host.proofs.Fronts.{Progress, Wholes, started, whole_started, went_on, whole_on, ended_so, truncated_so, bound_so, read_fault_so, gives_up, never_began, stops_writing, gives_up_writing, closes_so, halts_so, reply_bytes_of}
 use Rattle.crom_host.proofs.stream.serve_stream.Given as given
 use Rattle.crom_host.proofs.stream.serve_stream.Goals as goal
@@ -35,7 +35,7 @@ returns-in_err-incoming-clause-stream g c =
 pub returns-then-served-most-clause-stream : goal.returns-then-served-most-clause-stream
 returns-then-served-most-clause-stream g c =
     let comes = rw c.in-Request.is at c.in_ok-incoming.ensures.stream in
-    bound_so _ _ _ _ _ _ _ _ _ _ _ c.loop-wire.invariant.progress comes (omega (arith, c.default_number-most.ensures, c.if-served-most.true, c.loop-wire.invariant.bound))
+    bound_so _ _ _ _ _ _ _ _ _ _ _ c.loop-wire.invariant.progress comes (omega (arith, c.number-most.ensures, c.if-served-most.true, c.loop-wire.invariant.bound))
 
 pub returns-in_err-reply-in-Request-clause-causes : goal.returns-in_err-reply-in-Request-clause-causes
 returns-in_err-reply-in-Request-clause-causes g c =
@@ -62,7 +62,7 @@ returns-in_err-write_reply-in-Request-clause-stream g c =
     let front = c.write_reply.ensures.front in
     let went : g.W.Sink.told c.write_reply.new.sink ≡ after (g.W.Sink.told c.loop-wire.sink) (take front.0 (bytes_of answered.0 c.in-Request.incoming.close)) =
     front.1 ∙ ap (λ (z : List ℕ). after (g.W.Sink.told c.loop-wire.sink) (take front.0 z)) (reply_bytes_of _ _ _ _ answered.2 refl) in
-    rw p.1 (gives_up_writing _ _ _ _ _ _ front.0 _ _ _ _ _ _ _ answered.0 c.loop-wire.invariant.progress (subst (λ (k : ℕ). c.loop-wire.served < k) c.default_number-most.ensures c.if-served-most.false) comes answered.1 went)
+    rw p.1 (gives_up_writing _ _ _ _ _ _ front.0 _ _ _ _ _ _ _ answered.0 c.loop-wire.invariant.progress (subst (λ (k : ℕ). c.loop-wire.served < k) c.number-most.ensures c.if-served-most.false) comes answered.1 went)
 
 pub returns-in-Failed-2-clause-stream : goal.returns-in-Failed-2-clause-stream
 returns-in-Failed-2-clause-stream g c =
@@ -71,7 +71,7 @@ returns-in-Failed-2-clause-stream g c =
     let front = c.write_reply.ensures.front in
     let went : g.W.Sink.told c.write_reply.new.sink ≡ after (g.W.Sink.told c.loop-wire.sink) (take front.0 (bytes_of answered.0 c.in-Request.incoming.close)) =
     front.1 ∙ ap (λ (z : List ℕ). after (g.W.Sink.told c.loop-wire.sink) (take front.0 z)) (reply_bytes_of _ _ _ _ answered.2 refl) in
-    stops_writing _ _ _ _ _ _ front.0 _ _ _ _ _ _ _ answered.0 c.loop-wire.invariant.progress (subst (λ (k : ℕ). c.loop-wire.served < k) c.default_number-most.ensures c.if-served-most.false) comes answered.1 went
+    stops_writing _ _ _ _ _ _ front.0 _ _ _ _ _ _ _ answered.0 c.loop-wire.invariant.progress (subst (λ (k : ℕ). c.loop-wire.served < k) c.number-most.ensures c.if-served-most.false) comes answered.1 went
 
 pub returns-then-halts-clause-stream : goal.returns-then-halts-clause-stream
 returns-then-halts-clause-stream g c =
@@ -81,7 +81,7 @@ returns-then-halts-clause-stream g c =
     let all = rw c.in-All.is at c.in_ok-write_reply-in-Request.ensures.all in
     let went : g.W.Sink.told c.write_reply.new.sink ≡ after (g.W.Sink.told c.loop-wire.sink) (bytes_of answered.0 c.in-Request.incoming.close) =
     all ∙ ap (after (g.W.Sink.told c.loop-wire.sink)) (reply_bytes_of _ _ _ _ answered.2 refl) in
-    halts_so _ _ _ _ _ _ _ _ _ _ _ _ _ answered.0 c.loop-wire.invariant.progress (subst (λ (k : ℕ). c.loop-wire.served < k) c.default_number-most.ensures c.if-served-most.false) comes answered.1 halt went
+    halts_so _ _ _ _ _ _ _ _ _ _ _ _ _ answered.0 c.loop-wire.invariant.progress (subst (λ (k : ℕ). c.loop-wire.served < k) c.number-most.ensures c.if-served-most.false) comes answered.1 halt went
 
 pub returns-then-close-clause-stream : goal.returns-then-close-clause-stream
 returns-then-close-clause-stream g c =
@@ -92,17 +92,17 @@ returns-then-close-clause-stream g c =
     let ends : c.in-Request.incoming.close ≡ true = c.if-close.true in
     let went : g.W.Sink.told c.write_reply.new.sink ≡ after (g.W.Sink.told c.loop-wire.sink) (bytes_of answered.0 true) =
     all ∙ ap (after (g.W.Sink.told c.loop-wire.sink)) (reply_bytes_of _ _ _ _ answered.2 ends) in
-    closes_so _ _ _ _ _ _ _ _ _ _ _ _ _ answered.0 closed c.loop-wire.invariant.progress (subst (λ (k : ℕ). c.loop-wire.served < k) c.default_number-most.ensures c.if-served-most.false) comes answered.1 ends (ap ending_of halt) went
+    closes_so _ _ _ _ _ _ _ _ _ _ _ _ _ answered.0 closed c.loop-wire.invariant.progress (subst (λ (k : ℕ). c.loop-wire.served < k) c.number-most.ensures c.if-served-most.false) comes answered.1 ends (ap ending_of halt) went
 
 -- the requests so far are answered, the one that came with them
 went_round : (g : given.Over) (c : Else-close g) → record {
-  progress : Progress default_settings (hosted (heap_of c.args.base.now)) (hosted (heap_of c.answer.new.base)) c.args.served.now (c.loop-wire.served + 1) (g.S.Source.left c.args.source.now)
+  progress : Progress (settings_of c.args.limits.now) (hosted (heap_of c.args.base.now)) (hosted (heap_of c.answer.new.base)) c.args.served.now (c.loop-wire.served + 1) (g.S.Source.left c.args.source.now)
       (before c.next.new.self (g.S.Source.left c.next.new.source)) (g.W.Sink.told c.args.sink.now) (g.W.Sink.told c.write_reply.new.sink);
-  whole : Wholes (default_limit Served) c.args.served.now (c.loop-wire.served + 1) (g.S.Source.left c.args.source.now) (before c.next.new.self (g.S.Source.left c.next.new.source));
+  whole : Wholes (number_of c.args.limits.now Served) c.args.served.now (c.loop-wire.served + 1) (g.S.Source.left c.args.source.now) (before c.next.new.self (g.S.Source.left c.next.new.source));
   sound : IsSound 0 (heap_of c.answer.new.base);
   source : g.S.Source.faults c.next.new.source ≡ g.S.Source.faults c.args.source.now;
   sink : g.W.Sink.faults c.write_reply.new.sink ≡ g.W.Sink.faults c.args.sink.now;
-  bound : c.loop-wire.served + 1 ≤ default_limit Served;
+  bound : c.loop-wire.served + 1 ≤ number_of c.args.limits.now Served;
 }
 went_round g c =
     let comes = rw c.in-Request.is at c.in_ok-incoming.ensures.stream in
@@ -115,12 +115,12 @@ went_round g c =
     let cause = rw c.in-Request.is at c.in_ok-incoming.ensures.cause in
     let count = rw c.in-All.is at c.in_ok-write_reply-in-Request.ensures.count in
     record {
-      progress = went_on _ _ _ _ _ _ _ _ _ _ _ _ _ answered.0 c.loop-wire.invariant.progress (subst (λ (k : ℕ). c.loop-wire.served < k) c.default_number-most.ensures c.if-served-most.false) comes answered.1 ends went;
+      progress = went_on _ _ _ _ _ _ _ _ _ _ _ _ _ answered.0 c.loop-wire.invariant.progress (subst (λ (k : ℕ). c.loop-wire.served < k) c.number-most.ensures c.if-served-most.false) comes answered.1 ends went;
       whole = whole_on _ _ _ _ _ _ _ c.loop-wire.invariant.whole wholes;
       sound = c.answer.ensures.sound;
       source = cause ∙ c.loop-wire.invariant.source;
       sink = count ∙ c.loop-wire.invariant.sink;
-      bound = omega (arith, c.default_number-most.ensures, c.if-served-most.false);
+      bound = omega (arith, c.number-most.ensures, c.if-served-most.false);
     }
 
 pub loop-wire-preserved-else-close : goal.loop-wire-preserved-else-close

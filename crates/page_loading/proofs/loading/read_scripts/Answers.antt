@@ -1,30 +1,33 @@
-use Rattle.std.proofs.Common.{◌≡◌, rules}
+use Rattle.std.proofs.Common.{◌≡◌, ℕ, List, subst, rules}
+use Rattle.std.specs.Prelude.{Err}
+use Rattle.page_reader.specs.declared.page.ScriptText.{ScriptText}
+use Rattle.page_loading.specs.Faults.{of_page}
+use Rattle.page_loading.specs.Loading.{ProgramsSay}
+use Rattle.page_loading.proofs.Loaded.{refused_exactly, read_exactly, read_loaded}
 use Rattle.page_loading.proofs.loading.read_scripts.Goals as goal
 
 -- ---- the bytes are no page
 
-pub returns-in_err-parts-clause-only : goal.returns-in_err-parts-clause-only
-returns-in_err-parts-clause-only g c trees scripts programs page are = let none = c.in_err-parts.ensures.only trees scripts page in search rules
-
-pub returns-in_err-parts-clause-only_rule : goal.returns-in_err-parts-clause-only_rule
-returns-in_err-parts-clause-only_rule g c number at fault = let same = c.in_err-parts.ensures.only_fault number at fault in search rules
-
-pub returns-in_err-parts-clause-only_script : goal.returns-in_err-parts-clause-only_script
-returns-in_err-parts-clause-only_script g c trees scripts index fault page first = let none = c.in_err-parts.ensures.only trees scripts page in search rules
+pub returns-in_err-parts-clause-exactly : goal.returns-in_err-parts-clause-exactly
+returns-in_err-parts-clause-exactly g c =
+    let same : c.from_residual.result ≡ Err (of_page c.in_err-parts.field-0.0) = search rules in
+    rw same (refused_exactly c.args.bytes.now c.in_err-parts.field-0.0 c.in_err-parts.ensures.exactly.found)
 
 -- ---- the bytes are a page
 
-pub returns-clause-only : goal.returns-clause-only
-returns-clause-only g c trees scripts programs page are =
-    let text : c.unwrap-text.result.now ≡ c.args.bytes.now = (rw c.unwrap-text.ensures at c.from_utf8.ensures.cases).0 in
-    let same : c.in_ok-parts.parts.scripts.items ≡ scripts = (c.in_ok-parts.ensures.one c.in_ok-parts.ensures.page.trees trees c.in_ok-parts.parts.scripts.items scripts c.in_ok-parts.ensures.page.page page).1 in
-    c.programs_of.ensures.only programs (rw (text, c.deref.ensures.value, same) are)
+pub unwrap-text-requires : goal.unwrap-text-requires
+unwrap-text-requires g c = let utf8 = c.in_ok-parts.ensures.page.page.utf8 in let cases = c.from_utf8.ensures.cases in search rules
 
-pub returns-clause-only_rule : goal.returns-clause-only_rule
-returns-clause-only_rule g c number at fault = absurd (c.in_ok-parts.ensures.only_fault number at fault)
-
-pub returns-clause-only_script : goal.returns-clause-only_script
-returns-clause-only_script g c trees scripts index fault page first =
+pub returns-clause-exactly : goal.returns-clause-exactly
+returns-clause-exactly g c =
     let text : c.unwrap-text.result.now ≡ c.args.bytes.now = (rw c.unwrap-text.ensures at c.from_utf8.ensures.cases).0 in
-    let same : c.in_ok-parts.parts.scripts.items ≡ scripts = (c.in_ok-parts.ensures.one c.in_ok-parts.ensures.page.trees trees c.in_ok-parts.parts.scripts.items scripts c.in_ok-parts.ensures.page.page page).1 in
-    c.programs_of.ensures.only_fault index fault (rw (text, c.deref.ensures.value, same) first)
+    read_exactly c.args.bytes.now c.in_ok-parts.parts.scripts.items (g.C.Cells.seen c.args.cells.now) (g.C.Cells.seen c.read_page.new.cells) c.in_ok-parts.ensures.page c.programs_of.result
+    (subst (λ (page : List ℕ). ProgramsSay page c.in_ok-parts.parts.scripts.items c.programs_of.result) text
+    (subst (λ (scripts : List ScriptText). ProgramsSay c.unwrap-text.result.now scripts c.programs_of.result) c.deref.ensures.value c.programs_of.ensures.says))
+
+pub returns-clause-loaded : goal.returns-clause-loaded
+returns-clause-loaded g c =
+    let text : c.unwrap-text.result.now ≡ c.args.bytes.now = (rw c.unwrap-text.ensures at c.from_utf8.ensures.cases).0 in
+    read_loaded c.args.bytes.now c.in_ok-parts.parts.scripts.items (g.C.Cells.seen c.args.cells.now) (g.C.Cells.seen c.read_page.new.cells) c.in_ok-parts.ensures.page c.programs_of.result
+    (subst (λ (page : List ℕ). ProgramsSay page c.in_ok-parts.parts.scripts.items c.programs_of.result) text
+    (subst (λ (scripts : List ScriptText). ProgramsSay c.unwrap-text.result.now scripts c.programs_of.result) c.deref.ensures.value c.programs_of.ensures.says))

@@ -1,4 +1,4 @@
-use Rattle.std.proofs.Common.{◌≡◌, ◌+◌, List, [], ◌∷◌, drop, get_or, subst, sym, ◌∙◌, inl, inr, Vec, Global, rules}
+use Rattle.std.proofs.Common.{◌≡◌, ◌+◌, List, [], ◌∷◌, drop, get_or, subst, sym, Vec, Global, rules}
 use Rattle.std.specs.Prelude.{All, Result, Err}
 use Rattle.std.proofs.lemmas.List.{drop_more, drop_all}
 use Rattle.std.proofs.lemmas.List.Elements.{All-nil, All-push}
@@ -6,9 +6,8 @@ use Rattle.js_tree.specs.declared.code.Program.{Program}
 use Rattle.js_tree.specs.Valid.{IsValid}
 use Rattle.page_reader.specs.declared.page.ScriptText.{ScriptText}
 use Rattle.page_loading.specs.declared.fault.LoadFault.{LoadFault}
-use Rattle.page_loading.specs.Programs.{HasProgram, ShowsFault, ArePrograms, FirstFault}
-use Rattle.page_loading.proofs.Reaching.{Reaches, at_start, one_more, found_fault, has_program, first_here, all_programs, only_programs, no_fault}
-use Rattle.page_loading.proofs.Shown.{judged_more}
+use Rattle.page_loading.proofs.Reaching.{Reaches, at_start, one_more, found_fault, all_programs}
+use Rattle.page_loading.proofs.Shown.{refused_scripts}
 use Rattle.page_loading.proofs.programs.programs_of.Goals as goal
 
 -- what is read where no script stands
@@ -34,8 +33,7 @@ loop-script-preserved c =
     let left = drop (c.loop-script.script-index + 1) c.args.scripts.now in
     let before : Reaches c.args.page.now c.args.scripts.now c.loop-script.programs.items (script ∷ left) =
     subst (λ (some : List ScriptText). Reaches c.args.page.now c.args.scripts.now c.loop-script.programs.items some) (drop_more c.args.scripts.now c.loop-script.script-index none c.loop-script-test.true) c.loop-script.invariant.reaches in
-    let after = one_more c.args.page.now c.args.scripts.now c.loop-script.programs.items script left before c.in_ok-program.program c.in_ok-program.ensures.found
-    c.in_ok-program.ensures.only c.in_ok-program.ensures.only_fault in
+    let after = one_more c.args.page.now c.args.scripts.now c.loop-script.programs.items script left before c.in_ok-program.program c.in_ok-program.ensures.says in
     record {
       reaches = subst (λ (programs : List Program). Reaches c.args.page.now c.args.scripts.now programs left) (sym c.in_ok-push.ensures.items) after;
       valid = subst (λ (programs : List Program). All IsValid programs) (sym c.in_ok-push.ensures.items) (All-push IsValid c.loop-script.programs.items c.in_ok-program.program c.loop-script.invariant.valid c.in_ok-program.ensures.valid);
@@ -47,49 +45,19 @@ loop-script-preserved c =
 abbrev failed : LoadFault → Result (Vec Program Global) LoadFault
 failed fault = Err fault
 
-pub returns-in_err-program-clause-found : goal.returns-in_err-program-clause-found
-returns-in_err-program-clause-found c =
+pub returns-in_err-program-clause-says : goal.returns-in_err-program-clause-says
+returns-in_err-program-clause-says c =
     let script = get_or c.args.scripts.now c.loop-script.script-index none in
     let before = subst (λ (some : List ScriptText). Reaches c.args.page.now c.args.scripts.now c.loop-script.programs.items some) (drop_more c.args.scripts.now c.loop-script.script-index none c.loop-script-test.true) c.loop-script.invariant.reaches in
     let same : c.from_residual.result ≡ failed c.in_err-program.field-0.0 = search rules in
-    rw same (judged_more {A = Program} {B = Vec Program Global} (HasProgram c.args.page.now script) (λ number fault. (number ≡ script.index) × ShowsFault c.args.page.now script fault)
-    (λ given. ArePrograms c.args.page.now c.args.scripts.now given.items) (FirstFault c.args.page.now c.args.scripts.now) c.in_err-program.field-0.0
-    (λ index fault h. found_fault c.args.page.now c.args.scripts.now c.loop-script.programs.items script _ before index fault h.0 h.1)
-    c.in_err-program.ensures.found)
-
-pub returns-in_err-program-clause-only : goal.returns-in_err-program-clause-only
-returns-in_err-program-clause-only c programs are =
-    let script = get_or c.args.scripts.now c.loop-script.script-index none in
-    let before = subst (λ (some : List ScriptText). Reaches c.args.page.now c.args.scripts.now c.loop-script.programs.items some) (drop_more c.args.scripts.now c.loop-script.script-index none c.loop-script-test.true) c.loop-script.invariant.reaches in
-    let own = has_program c.args.page.now c.args.scripts.now c.loop-script.programs.items script _ before programs are in
-    let same : c.from_residual.result ≡ failed c.in_err-program.field-0.0 = search rules in
-    rw same (judged_more {A = Program} {B = Vec Program Global} (λ given. given ≡ own.0) (λ _ _. ⊥) (λ given. given.items ≡ programs) (λ _ _. ⊥) c.in_err-program.field-0.0 (λ index fault h. h)
-    (c.in_err-program.ensures.only own.0 own.1))
-
-pub returns-in_err-program-clause-only_fault : goal.returns-in_err-program-clause-only_fault
-returns-in_err-program-clause-only_fault c index fault first =
-    let script = get_or c.args.scripts.now c.loop-script.script-index none in
-    let before = subst (λ (some : List ScriptText). Reaches c.args.page.now c.args.scripts.now c.loop-script.programs.items some) (drop_more c.args.scripts.now c.loop-script.script-index none c.loop-script-test.true) c.loop-script.invariant.reaches in
-    let same : c.from_residual.result ≡ failed c.in_err-program.field-0.0 = search rules in
-    rw same (elim (first_here c.args.page.now c.args.scripts.now c.loop-script.programs.items script _ before index fault first) [
-      | inl (number, shows) ↦
-          judged_more {A = Program} {B = Vec Program Global} (λ _. ⊥) (λ at given. (at ≡ script.index) × (given ≡ fault)) (λ _. ⊥) (λ at given. (at ≡ index) × (given ≡ fault)) c.in_err-program.field-0.0
-          (λ at given h. (h.0 ∙ sym number, h.1)) (c.in_err-program.ensures.only_fault fault shows)
-      | inr (program, has) ↦
-          judged_more {A = Program} {B = Vec Program Global} (λ given. given ≡ program) (λ _ _. ⊥) (λ _. ⊥) (λ at given. (at ≡ index) × (given ≡ fault)) c.in_err-program.field-0.0 (λ at given h. absurd h)
-          (c.in_err-program.ensures.only program has)
-    ])
+    rw same (refused_scripts c.args.page.now c.args.scripts.now script c.in_err-program.field-0.0
+    (λ index fault e h. found_fault c.args.page.now c.args.scripts.now c.loop-script.programs.items script _ before index fault e h)
+    c.in_err-program.ensures.says)
 
 -- ---- each is one
 
-pub returns-clause-found : goal.returns-clause-found
-returns-clause-found c = all_programs c.args.page.now c.args.scripts.now c.loop-script.programs.items (at_end c)
-
-pub returns-clause-only : goal.returns-clause-only
-returns-clause-only c = only_programs c.args.page.now c.args.scripts.now c.loop-script.programs.items (at_end c)
-
-pub returns-clause-only_fault : goal.returns-clause-only_fault
-returns-clause-only_fault c = no_fault c.args.page.now c.args.scripts.now c.loop-script.programs.items (at_end c)
+pub returns-clause-says : goal.returns-clause-says
+returns-clause-says c = all_programs c.args.page.now c.args.scripts.now c.loop-script.programs.items (at_end c)
 
 pub returns-clause-valid : goal.returns-clause-valid
 returns-clause-valid c = c.loop-script.invariant.valid

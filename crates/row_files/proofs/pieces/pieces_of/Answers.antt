@@ -5,7 +5,7 @@ use Rattle.std.proofs.lemmas.List.Sums.{list_all-from_AllPass}
 use Rattle.std.proofs.lemmas.List.Folds.{list_all-append}
 use Rattle.std.specs.Prelude.{IsTrue}
 use borrow.Author.Tests.{lt-ltb}
-use Rattle.page_units.specs.Memory.{are_pieces}
+use Rattle.byte_ports.specs.Memory.{are_pieces}
 use Rattle.row_files.proofs.pieces.pieces_of.Goals.{then-count-length-gt0+in_ok-push, else-count-length-gt0}
 use Rattle.row_files.proofs.pieces.pieces_of.Goals as goal
 

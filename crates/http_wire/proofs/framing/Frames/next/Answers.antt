@@ -1,5 +1,5 @@
 use Rattle.std.proofs.Common.{◌≡◌, ◌≢◌, ℕ, List, [], ◌++◌, arith, refl, ap, sym, subst, ◌∙◌, rules}
-use Rattle.page_units.specs.Outside.{before}
+use Rattle.byte_ports.specs.Streams.{before}
 use Rattle.std.proofs.lemmas.Grind.{common_steps}
 use Rattle.http_wire.specs.Outcomes.{Refuses, IsUnfinished}
 use Rattle.http_wire.specs.Requests.{EndsAs, ended, truncated}

@@ -1,5 +1,5 @@
 use Rattle.std.proofs.Common.{◌≡◌, ◌-◌, length}
-use Rattle.page_units.specs.Outside.{before}
+use Rattle.byte_ports.specs.Streams.{before}
 use Rattle.http_wire.specs.Bounds.{held_bytes}
 use Rattle.http_wire.specs.Outcomes.{IsUnfinished}
 use Rattle.http_wire.specs.Reading.{ReadsOn}

@@ -1,5 +1,5 @@
 use Rattle.std.proofs.Common.{inl, inr, refl, Ok}
-use Rattle.page_units.specs.Outside.{before}
+use Rattle.byte_ports.specs.Streams.{before}
 use Rattle.http_wire.proofs.Wholes.{whole_of}
 use Rattle.http_wire.proofs.Wired.{request_comes, refusal_comes}
 use Rattle.http_wire.proofs.wire.Wire.next.Goals.{in-Request+in_ok-incoming-in-Request, in-Refused, in-End, in-Truncated, in-Failed}

@@ -1,0 +1,5 @@
+pub mod Checking
+pub mod Faults
+pub mod Headline
+pub mod Statuses
+pub mod Words
