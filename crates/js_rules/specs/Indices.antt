@@ -1,5 +1,6 @@
 -- Keys that are indices of lists, and the order of keys (ECMA-262 5.1, 15.4; that an index has no upper end here, and
 -- its order, are this project's own).
+use Prim.Native.Char.{code}
 use Rattle.std.specs.Prelude.{ℕ, Bool, false, not, ◌&&◌, ◌||◌, cond, ◌==◌, nat_lt, List, [], ◌∷◌, ◌++◌, length, filter, reverse, decimal, codes}
 use Rattle.std.specs.List.{list_any}
 use Rattle.std.specs.Str.{bytes_eq}
@@ -12,7 +13,7 @@ most_items = 65536
 
 abbrev pub begins_with_zero : List ℕ → Bool
 begins_with_zero [] = false
-begins_with_zero (c ∷ cs) = c == 48
+begins_with_zero (c ∷ cs) = c == code "0"
 
 -- an index: digits without a needless zero
 abbrev pub is_index : List ℕ → Bool

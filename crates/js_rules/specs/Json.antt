@@ -1,6 +1,7 @@
 -- JSON: values made of trees, and the texts of values (ECMA-262 5.1, 15.12, without revivers and replacers; the
 -- limit of 128 levels and the order of the acts are this project's own).
-use Rattle.std.specs.Prelude.{ℕ, ◌+◌, ◌/◌, ◌%◌, ◌==◌, nat_lt, nat_le, List, [], ◌∷◌, ◌++◌, length, Option, Some, None, codes, if◌then◌else◌}
+use Prim.Native.Char.{code}
+use Rattle.std.specs.Prelude.{ℕ, ◌+◌, ◌-◌, ◌/◌, ◌%◌, ◌==◌, nat_lt, nat_le, List, [], ◌∷◌, ◌++◌, length, Option, Some, None, codes, if◌then◌else◌}
 use Rattle.page_units.specs.declared.value.CellName.{CellName}
 use Rattle.page_units.specs.declared.value.Value.{Value}
 use Rattle.page_units.specs.declared.value.Value.TheVariants as v
@@ -62,19 +63,19 @@ parse_read (Some j) = do
 -- ---- from a value to its text (15.12.3)
 
 abbrev pub hex_digit : ℕ → ℕ
-hex_digit n = if nat_lt n 10 then 48 + n else 87 + n
+hex_digit n = if nat_lt n 10 then code "0" + n else code "a" + (n - 10)
 
 -- Quote (15.12.3)
 abbrev pub quoted_unit : ℕ → List ℕ
 quoted_unit c =
-    if c == 34 then 92 ∷ 34 ∷ []
-    else if c == 92 then 92 ∷ 92 ∷ []
-    else if c == 8 then (92 ∷ 98 ∷ [])
-    else if c == 12 then (92 ∷ 102 ∷ [])
-    else if c == 10 then (92 ∷ 110 ∷ [])
-    else if c == 13 then (92 ∷ 114 ∷ [])
-    else if c == 9 then (92 ∷ 116 ∷ [])
-    else if nat_lt c 32 then (92 ∷ 117 ∷ 48 ∷ 48 ∷ hex_digit (c / 16) ∷ hex_digit (c % 16) ∷ [])
+    if c == code "\"" then codes "\\\""
+    else if c == code "\\" then codes "\\\\"
+    else if c == code "\u{8}" then codes "\\b"
+    else if c == code "\u{c}" then codes "\\f"
+    else if c == code "\n" then codes "\\n"
+    else if c == code "\r" then codes "\\r"
+    else if c == code "\t" then codes "\\t"
+    else if nat_lt c 32 then codes "\\u00" ++ hex_digit (c / 16) ∷ hex_digit (c % 16) ∷ []
     else c ∷ []
 
 abbrev pub quoted_units : List ℕ → List ℕ
@@ -82,7 +83,7 @@ quoted_units [] = []
 quoted_units (c ∷ cs) = quoted_unit c ++ quoted_units cs
 
 abbrev pub quoted : List ℕ → List ℕ
-quoted t = 34 ∷ (quoted_units t ++ 34 ∷ [])
+quoted t = codes "\"" ++ (quoted_units t ++ codes "\"")
 
 abbrev pub comma : List ℕ
 comma = codes ","

@@ -1,5 +1,6 @@
 -- JSON texts as trees, and how they are read (RFC 8259). That numbers are whole and in range, and that there
 -- are at most 128 levels, is this project's own.
+use Prim.Native.Char.{code}
 use Rattle.std.specs.Prelude.{ℕ, zero, suc, ◌==◌, nat_lt, ℤ, pos, neg_ℤ, Bool, true, false, not, ◌&&◌, ◌||◌, List, [], ◌∷◌, length, take, drop, Option, Some, None, codes, if◌then◌else◌}
 use Rattle.std.specs.List.{prefix_len}
 use Rattle.std.specs.Char.{is_ascii_digit, digit_value}
@@ -25,7 +26,7 @@ mutual
     one_entry : List ℕ → Json → JsonEntries → JsonEntries
 
 abbrev pub is_space : ℕ → Bool
-is_space c = c == 32 || c == 9 || c == 10 || c == 13
+is_space c = c == code " " || c == code "\t" || c == code "\n" || c == code "\r"
 
 abbrev pub after_spaces : List ℕ → List ℕ
 after_spaces t = drop (prefix_len is_space t) t
@@ -50,12 +51,12 @@ hex4 a b c d =
 
 abbrev pub short_escape : ℕ → Option ℕ
 short_escape c =
-    if c == 34 || c == 92 || c == 47 then Some c
-    else if c == 98 then Some 8
-    else if c == 102 then Some 12
-    else if c == 110 then Some 10
-    else if c == 114 then Some 13
-    else if c == 116 then Some 9
+    if c == code "\"" || c == code "\\" || c == code "/" then Some c
+    else if c == code "b" then Some (code "\u{8}")
+    else if c == code "f" then Some (code "\u{c}")
+    else if c == code "n" then Some (code "\n")
+    else if c == code "r" then Some (code "\r")
+    else if c == code "t" then Some (code "\t")
     else None
 
 abbrev pub with_unit : Option ℕ → Read (List ℕ) → Read (List ℕ)
@@ -71,31 +72,31 @@ hex_of _ = None
 -- what an escape stands for whose backslash comes before these units, and how many units it has after that
 abbrev pub escaped : List ℕ → Option ℕ
 escaped [] = None
-escaped (c ∷ cs) = if c == 117 then hex_of cs else short_escape c
+escaped (c ∷ cs) = if c == code "u" then hex_of cs else short_escape c
 
 abbrev pub escape_length : List ℕ → ℕ
 escape_length [] = 0
-escape_length (c ∷ cs) = if c == 117 then 5 else 1
+escape_length (c ∷ cs) = if c == code "u" then 5 else 1
 
 -- after the first quote; the next `skip` units belong to an escape that was read
 abbrev pub read_units : (skip : ℕ) → List ℕ → Read (List ℕ)
 read_units skip [] = None
 read_units (suc n) (c ∷ cs) = read_units n cs
 read_units zero (c ∷ cs) =
-    if c == 34 then Some ([], cs)
+    if c == code "\"" then Some ([], cs)
     else if nat_lt c 32 then None
-    else if c == 92 then with_unit (escaped cs) (read_units (escape_length cs) cs)
+    else if c == code "\\" then with_unit (escaped cs) (read_units (escape_length cs) cs)
     else with_unit (Some c) (read_units zero cs)
 
 -- ---- numbers
 
 abbrev pub ends_number : List ℕ → Bool
 ends_number [] = true
-ends_number (c ∷ cs) = not (is_ascii_digit c || c == 46 || c == 101 || c == 69)
+ends_number (c ∷ cs) = not (is_ascii_digit c || c == code "." || c == code "e" || c == code "E")
 
 abbrev pub is_whole_digits : List ℕ → Bool
 is_whole_digits [] = false
-is_whole_digits (c ∷ cs) = not (c == 48) || length cs == 0
+is_whole_digits (c ∷ cs) = not (c == code "0") || length cs == 0
 
 abbrev pub signed : Bool → ℕ → ℤ
 signed true n = neg_ℤ (pos n)
@@ -109,7 +110,7 @@ read_digits minus t =
 
 abbrev pub read_number : List ℕ → Read Json
 read_number [] = None
-read_number (c ∷ cs) = if c == 45 then read_digits true cs else read_digits false (c ∷ cs)
+read_number (c ∷ cs) = if c == code "-" then read_digits true cs else read_digits false (c ∷ cs)
 
 -- ---- lists and objects, where V reads a value
 
@@ -133,8 +134,8 @@ and_entries key x (Some r) = Some (one_entry key x r.0, r.1)
 abbrev pub after_item : (List ℕ → Read JsonList) → Read Json → Read JsonList
 after_item more None = None
 after_item more (Some r) =
-    if closes 93 (after_spaces r.1) then Some (one_item r.0 no_items, drop 1 (after_spaces r.1))
-    else if closes 44 (after_spaces r.1) then and_items r.0 (more (drop 1 (after_spaces r.1)))
+    if closes (code "]") (after_spaces r.1) then Some (one_item r.0 no_items, drop 1 (after_spaces r.1))
+    else if closes (code ",") (after_spaces r.1) then and_items r.0 (more (drop 1 (after_spaces r.1)))
     else None
 
 -- at most so many items
@@ -145,21 +146,21 @@ read_items V (suc n) t = after_item (read_items V n) (V t)
 abbrev pub after_entry : (List ℕ → Read JsonEntries) → List ℕ → Read Json → Read JsonEntries
 after_entry more key None = None
 after_entry more key (Some r) =
-    if closes 125 (after_spaces r.1) then Some (one_entry key r.0 no_entries, drop 1 (after_spaces r.1))
-    else if closes 44 (after_spaces r.1) then and_entries key r.0 (more (drop 1 (after_spaces r.1)))
+    if closes (code "}") (after_spaces r.1) then Some (one_entry key r.0 no_entries, drop 1 (after_spaces r.1))
+    else if closes (code ",") (after_spaces r.1) then and_entries key r.0 (more (drop 1 (after_spaces r.1)))
     else None
 
 abbrev pub after_key : (List ℕ → Read Json) → (List ℕ → Read JsonEntries) → Read (List ℕ) →
     Read JsonEntries
 after_key V more None = None
 after_key V more (Some r) =
-    if closes 58 (after_spaces r.1) then after_entry more r.0 (V (drop 1 (after_spaces r.1)))
+    if closes (code ":") (after_spaces r.1) then after_entry more r.0 (V (drop 1 (after_spaces r.1)))
     else None
 
 abbrev pub read_entries : (List ℕ → Read Json) → ℕ → List ℕ → Read JsonEntries
 read_entries V zero t = None
 read_entries V (suc n) t =
-    if closes 34 (after_spaces t)
+    if closes (code "\"") (after_spaces t)
     then after_key V (read_entries V n) (read_units 0 (drop 1 (after_spaces t)))
     else None
 
@@ -173,12 +174,12 @@ as_object (Some r) = Some (object r.0, r.1)
 
 abbrev pub read_list : (List ℕ → Read Json) → List ℕ → Read Json
 read_list V t =
-    if closes 93 (after_spaces t) then Some (list no_items, drop 1 (after_spaces t))
+    if closes (code "]") (after_spaces t) then Some (list no_items, drop 1 (after_spaces t))
     else as_list (read_items V (length t) t)
 
 abbrev pub read_object : (List ℕ → Read Json) → List ℕ → Read Json
 read_object V t =
-    if closes 125 (after_spaces t) then Some (object no_entries, drop 1 (after_spaces t))
+    if closes (code "}") (after_spaces t) then Some (object no_entries, drop 1 (after_spaces t))
     else as_object (read_entries V (length t) t)
 
 abbrev pub as_word : Value → Option (List ℕ) → Read Json
@@ -192,12 +193,12 @@ word w x t = as_word x (after_prefix w t)
 abbrev pub read_at : (List ℕ → Read Json) → Bool → List ℕ → Read Json
 read_at V nests [] = None
 read_at V nests (c ∷ cs) =
-    if c == 34 then as_string (read_units 0 cs)
-    else if c == 91 then (if nests then read_list V cs else None)
-    else if c == 123 then (if nests then read_object V cs else None)
-    else if c == 116 then word (codes "true") (v.Bool true) (c ∷ cs)
-    else if c == 102 then word (codes "false") (v.Bool false) (c ∷ cs)
-    else if c == 110 then word (codes "null") v.Null (c ∷ cs)
+    if c == code "\"" then as_string (read_units 0 cs)
+    else if c == code "[" then (if nests then read_list V cs else None)
+    else if c == code "{" then (if nests then read_object V cs else None)
+    else if c == code "t" then word (codes "true") (v.Bool true) (c ∷ cs)
+    else if c == code "f" then word (codes "false") (v.Bool false) (c ∷ cs)
+    else if c == code "n" then word (codes "null") v.Null (c ∷ cs)
     else read_number (c ∷ cs)
 
 -- with so many levels of lists and objects

@@ -1,5 +1,6 @@
 -- The built-in functions of nodes (WHATWG DOM, 4.2 to 4.9; which names may be given, and what is thrown for
 -- anything but a node, are this project's own).
+use Prim.Native.Char.{code}
 use Rattle.std.specs.Prelude.{ℕ, ◌==◌, nat_le, Bool, false, ◌&&◌, ◌||◌, List, [], ◌∷◌, map, Option, Some, None, if◌then◌else◌}
 use Rattle.std.specs.List.{list_all}
 use Rattle.page_units.specs.declared.value.CellName.{CellName}
@@ -22,10 +23,10 @@ use Rattle.js_rules.specs.Prog.{or_null}
 
 -- a name of an element or an attribute (this project's own)
 abbrev pub is_letter : ℕ → Bool
-is_letter c = (nat_le 65 c && nat_le c 90) || (nat_le 97 c && nat_le c 122)
+is_letter c = (nat_le (code "A") c && nat_le c (code "Z")) || (nat_le (code "a") c && nat_le c (code "z"))
 
 abbrev pub is_name_unit : ℕ → Bool
-is_name_unit c = is_letter c || (nat_le 48 c && nat_le c 57) || c == 45
+is_name_unit c = is_letter c || (nat_le (code "0") c && nat_le c (code "9")) || c == code "-"
 
 abbrev pub is_node_name : List ℕ → Bool
 is_node_name [] = false

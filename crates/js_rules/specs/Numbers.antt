@@ -1,5 +1,6 @@
 -- What the built-in functions of numbers compute (ECMA-262 5.1, 15.1.2.2 and 15.8.2.13), with whole numbers
 -- alone (this project's own).
+use Prim.Native.Char.{code}
 use Rattle.std.specs.Prelude.{ℕ, zero, suc, ◌%◌, ◌==◌, nat_lt, nat_abs, ℤ, pos, negsuc, ◌*ℤ◌, neg_ℤ, int_lt, int_le, Bool, true, false, ◌&&◌, ◌||◌, cond, List, [], ◌∷◌, take, drop, Option, Some, None, if◌then◌else◌}
 use Rattle.std.specs.List.{prefix_len}
 use Rattle.std.specs.Char.{digit_value}
@@ -35,7 +36,7 @@ abbrev pub after_blanks : List ℕ → List ℕ
 after_blanks t = drop (prefix_len is_blank t) t
 
 abbrev pub has_hex_prefix : List ℕ → Bool
-has_hex_prefix (c ∷ x ∷ more) = c == 48 && (x == 120 || x == 88)
+has_hex_prefix (c ∷ x ∷ more) = c == code "0" && (x == code "x" || x == code "X")
 has_hex_prefix _ = false
 
 -- the radix that is asked for: 0 stands for 10, and 0 and 16 let `0x` through

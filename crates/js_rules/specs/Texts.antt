@@ -1,5 +1,6 @@
 -- Texts as lists of units: what the built-in functions of texts compute (ECMA-262 5.1, 15.5.4; that ASCII
 -- letters alone change their case is this project's own).
+use Prim.Native.Char.{code}
 use Rattle.std.specs.Prelude.{ℕ, zero, suc, ◌+◌, ◌-◌, ◌%◌, ◌==◌, min, nat_le, nat_abs, ℤ, pos, negsuc, int_lt, Bool, true, false, ◌&&◌, cond, List, [], ◌∷◌, ◌++◌, map, length, take, drop, Option, Some, None, if◌then◌else◌}
 
 -- the second text begins with the first
@@ -57,10 +58,10 @@ abbrev pub replaced : List ℕ → List ℕ → List ℕ → List ℕ
 replaced old new t = replaced_at (first_place 0 old t) old new t
 
 abbrev pub lower_unit : ℕ → ℕ
-lower_unit c = cond (nat_le 65 c && nat_le c 90) (c + 32) c
+lower_unit c = cond (nat_le (code "A") c && nat_le c (code "Z")) (c + 32) c
 
 abbrev pub upper_unit : ℕ → ℕ
-upper_unit c = cond (nat_le 97 c && nat_le c 122) (c - 32) c
+upper_unit c = cond (nat_le (code "a") c && nat_le c (code "z")) (c - 32) c
 
 -- a number within 0 and n
 abbrev pub clamped : ℤ → ℕ → ℕ
